@@ -1,0 +1,355 @@
+-- Demand 3: the invariant of every game that an accepted sheet leads to, and the cover's sentence from it.
+use mathlib.Core.Path.{_≡_, refl, sym, ap, _∙_, subst, subst⁻¹}
+use mathlib.Core.Bool.{Bool, true, false, not, _&&_, _||_}
+use mathlib.Core.List.{List, [], _∷_, _++_, append-nil, append-assoc}
+use mathlib.Core.Logic.{_≢_, _⊎_, inl, inr, ⊎-elim}
+use mathlib.Core.Option.{Option, none, some}
+use Prim.Native.Nat.{ℕ, zero, suc, _+_, _≤_, _<_}
+use native.Mathlib.Omega.{arith}
+use borrow.Author.Tests.{le-ltb}
+use lib.Dec.{T, eqb, eqb→eq, eqb-refl, leb, ltb, not-T, T-not}
+use lib.ListN.{length, length-append}
+use Rattle.rules.specs.Words.{_∈_, at-head, in-tail, among}
+use Rattle.rules.specs.Board.{cells, isCell}
+use Rattle.rules.specs.Text.{Bytes}
+use Rattle.rules.specs.Joining.{joined}
+use Rattle.rules.specs.Tree.{Waits, noWaits, wait, Moves, noMoves, move, Wait, Move, Sheet, stone, movesOfWaits, movesOfMoves, waitsOfWaits, waitsOfMoves, everyMove, everyWait, waitCount}
+use Rattle.rules.specs.Reading.{Result, refused, got}
+use Rattle.rules.specs.Fair.{inWaits, inMoves, inMove, holding, inEvery}
+use Rattle.rules.specs.Outcomes.{outcomes, outcomesOfWaits}
+use Rattle.rules.specs.Answering.{Choice, taken, opened, waitHolds, moveHolds, allowed, answer, Game, start, mine, isOver, isTaken, isEmpty, next, answeredBy, answered}
+use Rattle.rules.specs.Entries.{accepted, _>>=_, refuseIf, step, Rounds, played, rounds, playedOut, playOn, play}
+use Rattle.rules.specs.Plain.{IsApart, IsElusive, IsSheet, WellRead}
+use Rattle.rules.specs.Promise.{Chosen, no-round, round, Ruled, no-move, one-move, Covered, HasChoice, HasAnswer, PlaysOut, Demand3, Demand3Chosen, Demand3Played, Demand3Joined}
+use Rattle.rules.specs.declared.Board.{Board}
+use Rattle.rules.proofs.Tests.{true-of, false-of, decide, both, fst, snd, left, right, cases, nor, nor-left, nor-right}
+use Rattle.rules.proofs.Lists.{in-append, in-first, in-second, append-left, append-right}
+use Rattle.rules.proofs.Joining.{joined-more, joins→joined}
+use Rattle.rules.proofs.WellRead.{well-read}
+use Rattle.rules.proofs.Given.{accepted-exactly}
+use Rattle.rules.proofs.EachOutcome.{Each, Inside, each-in, each-unmap, each-opened}
+use Rattle.rules.proofs.Opening.{Apart, Elusive, FairWaits, FairMoves, waitsIn, waits-counted, hold-in, out-hold, fair-opened, count-opened, hold-opened, taken-hold, taken-opened, dodged, taken-not}
+use Rattle.rules.proofs.Answering.{answers, not-held, right-wait}
+
+-- What the tree of an accepted sheet has, for every number
+abbrev OnBoard : Board → Waits → Type 0
+OnBoard b ws = (x : ℕ) → T (inWaits ws x) → T (isCell b x)
+
+mutual
+  unfolding inWaits movesOfWaits
+
+  board-waits : (b : Board) (ws : Waits) → ((m : Move) → m ∈ movesOfWaits ws → T (isCell b (m .cell))) → OnBoard b ws
+  board-waits b noWaits h x i = absurd i
+  board-waits b (wait line ms ws) h x i =
+      elim (cases (inMoves ms x) (inWaits ws x) i) [
+        | inl k ↦ board-moves b ms (λ m j. h m (in-first (movesOfWaits ws) j)) x k
+        | inr k ↦ board-waits b ws (λ m j. h m (in-second (movesOfMoves ms) j)) x k
+      ]
+
+  board-moves : (b : Board) (ms : Moves) → ((m : Move) → m ∈ movesOfMoves ms → T (isCell b (m .cell))) → (x : ℕ) → T (inMoves ms x) → T (isCell b x)
+  board-moves b noMoves h x i = absurd i
+  board-moves b (move line c ws ms) h x i =
+      elim (cases (eqb x c || inWaits ws x) (inMoves ms x) i) [
+        | inl k ↦
+            elim (cases (eqb x c) (inWaits ws x) k) [
+              | inl e ↦ subst⁻¹ (λ z. T (isCell b z)) (eqb→eq x c e) (h (record { line = line; cell = c; waits = ws }) at-head)
+              | inr j ↦ board-waits b ws (λ m l. h m (in-tail (in-first (movesOfMoves ms) l))) x j
+            ]
+        | inr k ↦ board-moves b ms (λ m j. h m (in-tail (in-second (movesOfWaits ws) j))) x k
+      ]
+
+apart-all : (b : Board) (m : Move) → OnBoard b (m .waits) → IsApart b m → Apart (m .cell) (m .waits)
+apart-all b m on a =
+    record {
+      own = not-T (inWaits (m .waits) (m .cell)) (λ i. a .own-not-under (on (m .cell) i) i);
+      once = λ x. ⊎-elim (λ i. a .in-one-wait x (on x i)) (λ n. omega (arith, out-hold x (m .waits) n)) (decide (inWaits (m .waits) x));
+    }
+
+elusive-all : (b : Board) (ms : Moves) → ((x : ℕ) → T (inMoves ms x) → T (isCell b x)) → ms ≢ noMoves → ((x : ℕ) → T (isCell b x) → T (inEvery ms x) → ⊥) → Elusive ms
+unfolding inEvery inMoves inMove
+elusive-all b noMoves on full e x = absurd (full refl)
+elusive-all b (move line c ws ms) on full e x =
+    not-T (inEvery (move line c ws ms) x)
+    (λ h. e x (on x (left (eqb x c || inWaits ws x) (inMoves ms x) (fst (eqb x c || inWaits ws x) (inEvery ms x) h))) h)
+
+module _ (b : Board) where
+  abbrev GoodMove : Move → Type 0
+  GoodMove m = T (isCell b (m .cell)) × IsApart b m
+
+  abbrev GoodWait : Wait → Type 0
+  GoodWait w = (w .moves ≢ noMoves) × IsElusive b w
+
+  mutual
+    unfolding FairWaits movesOfWaits waitsOfWaits
+
+    fair-waits : (ws : Waits) → ((m : Move) → m ∈ movesOfWaits ws → GoodMove m) → ((w : Wait) → w ∈ waitsOfWaits ws → GoodWait w) → FairWaits ws
+    fair-waits noWaits f g = tt
+    fair-waits (wait line ms ws) f g =
+        let here = g (record { line = line; moves = ms }) at-head in
+        let under : (m : Move) → m ∈ movesOfMoves ms → GoodMove m = λ m i. f m (in-first (movesOfWaits ws) i) in (
+          elusive-all b ms (board-moves b ms (λ m i. (under m i) .0)) (here .0) (here .1 .no-cell-in-all),
+          fair-moves ms under (λ w i. g w (in-tail (in-first (waitsOfWaits ws) i))),
+          fair-waits ws (λ m i. f m (in-second (movesOfMoves ms) i)) (λ w i. g w (in-tail (in-second (waitsOfMoves ms) i))),
+        )
+
+    fair-moves : (ms : Moves) → ((m : Move) → m ∈ movesOfMoves ms → GoodMove m) → ((w : Wait) → w ∈ waitsOfMoves ms → GoodWait w) → FairMoves ms
+    fair-moves noMoves f g = tt
+    fair-moves (move line c ws ms) f g =
+        let under : (m : Move) → m ∈ movesOfWaits ws → GoodMove m = λ m i. f m (in-tail (in-first (movesOfMoves ms) i)) in (
+          apart-all b (record { line = line; cell = c; waits = ws }) (board-waits b ws (λ m i. (under m i) .0)) ((f (record { line = line; cell = c; waits = ws }) at-head) .1),
+          fair-waits ws under (λ w i. g w (in-first (waitsOfMoves ms) i)),
+          fair-moves ms (λ m i. f m (in-tail (in-second (movesOfWaits ws) i))) (λ w i. g w (in-second (waitsOfWaits ws) i)),
+        )
+
+-- The invariant. A cell is in at most one open wait, and then it is on the board and bears no stone; each outcome of the open
+-- waits joins with the holder's stones
+record Safe (s : Sheet) (g : Game) : Type 0 where
+  fair : FairWaits (g .open-waits)
+  once : (y : ℕ) → holding (g .open-waits) y ≤ 1
+  board : (y : ℕ) → 1 ≤ holding (g .open-waits) y → T (isCell (s .board) y)
+  off-mine : (y : ℕ) → T (among (mine s g) y) → holding (g .open-waits) y ≡ 0
+  off-theirs : (y : ℕ) → T (among (g .theirs) y) → holding (g .open-waits) y ≡ 0
+  joins : Each (λ o. T (joined (s .board) (s .player) (among (mine s g ++ o)))) (outcomesOfWaits (g .open-waits))
+
+-- the start
+begin : (w : ℕ) (t : Bytes) (s : Sheet) → IsSheet w t s → Safe s (start s)
+unfolding start mine everyMove everyWait outcomes among stone
+begin w t s a =
+    let r = well-read t s (a .reads) in
+    let b = s .board in
+    let ws = s .root .waits in
+    let on = board-waits b ws (r .on-board) in
+    let top = apart-all b (s .root) on (a .apart (s .root) at-head) in
+    record {
+      fair = fair-waits b ws (λ m i. (r .on-board m i, a .apart m (in-tail i))) (λ v i. (r .some-moves v i, a .elusive v i));
+      once = top .once;
+      board = λ y h. on y (hold-in y ws h);
+      off-mine =
+          λ y h. ⊎-elim (λ i. own-off (s .root .cell) y (top .own) i) (λ i. absurd i) (in-append y (stone (s .root .cell)) [] h);
+      off-theirs = λ y h. absurd h;
+      joins =
+          each-map-nil
+          (each-unmap (λ o. T (joined b (s .player) (among o))) (λ o. stone (s .root .cell) ++ o) (outcomesOfWaits ws)
+          (each-in (λ o. T (joined b (s .player) (among o))) (outcomes s) (λ o i. joins→joined b (s .player) (among o) (a .satisfying o i))));
+    }
+  where
+    own-off : (c y : ℕ) → T (not (inWaits (s .root .waits) c)) → T (among (stone c) y) → holding (s .root .waits) y ≡ 0
+    own-off zero y n h = absurd h
+    own-off (suc c) y n h =
+        ⊎-elim
+        (λ e. subst⁻¹ (λ (z : ℕ). holding (s .root .waits) z ≡ 0) (eqb→eq y (suc c) e) (out-hold (suc c) (s .root .waits) n))
+        (λ e. absurd e)
+        (cases (eqb y (suc c)) false h)
+
+    each-map-nil : Each (λ o. T (joined (s .board) (s .player) (among (stone (s .root .cell) ++ o)))) (outcomesOfWaits (s .root .waits))
+        → Each (λ o. T (joined (s .board) (s .player) (among ((stone (s .root .cell) ++ []) ++ o)))) (outcomesOfWaits (s .root .waits))
+    each-map-nil h = rw (append-nil (stone (s .root .cell))) h
+
+-- a stone more
+snoc-in : (xs : List ℕ) (c y : ℕ) → T (among (xs ++ c ∷ []) y) → T (eqb y c) ⊎ T (among xs y)
+unfolding among
+snoc-in xs c y h = elim (in-append y xs (c ∷ []) h) [ inl i ↦ inr i | inr i ↦ elim (cases (eqb y c) false i) [ inl e ↦ inl e | inr e ↦ absurd e ] ]
+
+mine-next : (s : Sheet) (g : Game) (x : ℕ) (k : Choice (g .open-waits)) → mine s (next g x k) ≡ mine s g ++ taken (g .open-waits) k ∷ []
+unfolding mine next
+mine-next s g x k = sym (append-assoc (stone (s .root .cell)) (g .answers) (taken (g .open-waits) k ∷ []))
+
+-- a new stone, which no open wait holds any more, and the older stones
+cleared : (c : ℕ) (old : List ℕ) (ws us : Waits) → ((y : ℕ) → holding us y ≤ holding ws y) → holding us c ≡ 0
+    → ((y : ℕ) → T (among old y) → holding ws y ≡ 0) → (y : ℕ) → T (among (old ++ c ∷ []) y) → holding us y ≡ 0
+cleared c old ws us le z off y h =
+    ⊎-elim
+    (λ e. subst⁻¹ (λ (m : ℕ). holding us m ≡ 0) (eqb→eq y c e) z)
+    (λ m. omega (arith, le y, off y m))
+    (snoc-in old c y h)
+
+-- after an allowed choice no open wait holds x
+gone : (x : ℕ) (ws : Waits) → FairWaits ws → holding ws x ≤ 1 → (k : Choice ws) → T (allowed x ws k) → holding (opened ws k) x ≡ 0
+gone x ws f a k h = ⊎-elim (λ t. dodged x ws k a (not-held x ws k h) t) (λ n. omega (arith, hold-opened x ws f k, out-hold x ws n)) (right-wait x ws k h)
+
+stones-inside : (xs : List ℕ) (c : ℕ) (o r : List ℕ) → Inside o (c ∷ r) → Inside (xs ++ o) ((xs ++ c ∷ []) ++ r)
+unfolding among
+stones-inside xs c o r f y h =
+    elim (in-append y xs o h) [
+      | inl i ↦ append-left y (xs ++ c ∷ []) r (append-left y xs (c ∷ []) i)
+      | inr i ↦
+          elim (cases (eqb y c) (among r y) (f y i)) [
+            | inl e ↦ append-left y (xs ++ c ∷ []) r (append-right y xs (c ∷ []) (left (eqb y c) false e))
+            | inr e ↦ append-right y (xs ++ c ∷ []) r e
+          ]
+    ]
+
+-- a round keeps the invariant
+safe-next : (s : Sheet) (g : Game) → Safe s g → (x : ℕ) (k : Choice (g .open-waits)) → T (allowed x (g .open-waits) k) → Safe s (next g x k)
+unfolding next
+safe-next s g i x k h =
+    let ws = g .open-waits in
+    let c = taken ws k in
+    let same = mine-next s g x k in
+    record {
+      fair = fair-opened ws (i .fair) k;
+      once = λ y. omega (arith, hold-opened y ws (i .fair) k, i .once y);
+      board = λ y p. i .board y (omega (arith, hold-opened y ws (i .fair) k, p));
+      off-mine =
+          λ y m.
+          cleared c (mine s g) ws (opened ws k) (λ y. hold-opened y ws (i .fair) k) (taken-opened ws (i .fair) k (i .once c)) (i .off-mine) y
+          (subst (λ (l : List ℕ). T (among l y)) same m);
+      off-theirs = cleared x (g .theirs) ws (opened ws k) (λ y. hold-opened y ws (i .fair) k) (gone x ws (i .fair) (i .once x) k h) (i .off-theirs);
+      joins =
+          subst⁻¹ (λ (l : List ℕ). Each (λ o. T (joined (s .board) (s .player) (among (l ++ o)))) (outcomesOfWaits (opened ws k))) same
+          (each-opened ws k
+          (λ o. T (joined (s .board) (s .player) (among (mine s g ++ o))))
+          (λ r. T (joined (s .board) (s .player) (among ((mine s g ++ c ∷ []) ++ r))))
+          (λ o r inside. joined-more (s .board) (s .player) (among (mine s g ++ o)) (among ((mine s g ++ c ∷ []) ++ r)) (λ y on. stones-inside (mine s g) c o r inside y))
+          (i .joins));
+    }
+
+-- what the invariant gives
+cell-empty : (s : Sheet) (g : Game) → Safe s g → (y : ℕ) → 1 ≤ holding (g .open-waits) y → T (isEmpty s g y)
+unfolding isEmpty isTaken
+cell-empty s g i y h =
+    both (isCell (s .board) y) (not (among (mine s g) y || among (g .theirs) y)) (i .board y h)
+    (nor (among (mine s g) y) (among (g .theirs) y)
+    (not-T (among (mine s g) y) (λ m. omega (arith, h, i .off-mine y m)))
+    (not-T (among (g .theirs) y) (λ m. omega (arith, h, i .off-theirs y m))))
+
+choice-empty : (s : Sheet) (g : Game) → Safe s g → (x : ℕ) (k : Choice (g .open-waits)) → T (allowed x (g .open-waits) k)
+    → T (isEmpty s g (taken (g .open-waits) k)) × (taken (g .open-waits) k ≢ x)
+choice-empty s g i x k h = (
+  cell-empty s g i (taken (g .open-waits) k) (taken-hold (g .open-waits) k),
+  λ e. T-not (eqb x (taken (g .open-waits) k)) (taken-not x (g .open-waits) k (not-held x (g .open-waits) k h)) (subst⁻¹ (λ (z : ℕ). T (eqb x z)) e (eqb-refl x)),
+)
+
+-- until the sides are joined a wait is open
+waiting : (s : Sheet) (g : Game) → Safe s g → T (not (isOver s g)) → 1 ≤ waitsIn (g .open-waits)
+unfolding isOver waitsIn outcomesOfWaits
+waiting s g i u = go (g .open-waits) (i .joins)
+  where
+    go : (ws : Waits) → Each (λ o. T (joined (s .board) (s .player) (among (mine s g ++ o)))) (outcomesOfWaits ws) → 1 ≤ waitsIn ws
+    go noWaits h =
+        absurd
+        (T-not (joined (s .board) (s .player) (among (mine s g))) u
+        (subst (λ (l : List ℕ). T (joined (s .board) (s .player) (among l))) (append-nil (mine s g)) (h .0)))
+    go (wait line ms ws) h = omega arith
+
+covered : (s : Sheet) (n : ℕ) (g : Game) → Safe s g → n + waitsIn (g .open-waits) ≤ waitCount s → Covered s n g
+covered s n g i c =
+    record {
+      within = omega (arith, c);
+      not-yet = λ u. omega (arith, c, waiting s g i u);
+      has-cell = λ u.
+          let a = answers 0 (g .open-waits) (i .fair) (waiting s g i u) in
+          (taken (g .open-waits) (a .0), cell-empty s g i (taken (g .open-waits) (a .0)) (taken-hold (g .open-waits) (a .0)));
+      one-wait = i .once;
+    }
+
+-- any allowed choices
+chosen-safe : (s : Sheet) (g : Game) (n : ℕ) (h : Game) → Chosen s g n h → Safe s g → Safe s h × (n + waitsIn (h .open-waits) ≤ waitsIn (g .open-waits))
+unfolding next
+chosen-safe s g _ _ no-round i = (i, omega arith)
+chosen-safe s g _ h (round {n = n} x k u e a r) i =
+    let t = chosen-safe s (next g x k) n h r (safe-next s g i x k a) in
+    (t .0, omega (arith, t .1, count-opened (g .open-waits) k))
+
+-- the sheet's waits
+all-waits : (s : Sheet) → waitsIn (start s .open-waits) ≡ waitCount s
+unfolding start waitCount everyWait
+all-waits s = sym (waits-counted (s .root .waits))
+
+-- Demand 3, whatever allowed moves the holder takes
+pub demand-3-chosen : Demand3Chosen
+demand-3-chosen w t s e n g r =
+    let t₁ = chosen-safe s (start s) n g r (begin w t s (accepted-exactly w t s .0 e)) in
+    let i = t₁ .0 in (
+      covered s n g i (omega (arith, t₁ .1, all-waits s)),
+      record {
+        offered = λ u x m.
+            let a = answers x (g .open-waits) (i .fair) (waiting s g i u) in
+            (a .0, a .2);
+        to-empty = choice-empty s g i;
+      },
+    )
+
+-- the answering rule makes allowed choices
+rule-next : (g : Game) (x : ℕ) (k : Choice (g .open-waits)) → answer x (g .open-waits) ≡ some k → answered g x ≡ next g x k
+unfolding answered answeredBy
+rule-next g x k e = rw e
+
+ruled-chosen : (s : Sheet) (g : Game) (xs : List ℕ) (h : Game) → Ruled s g xs h → Safe s g → Chosen s g (length xs) h
+ruled-chosen s g _ _ no-move i = no-round
+ruled-chosen s g _ h (one-move {x = x} {xs = xs} u e r) i =
+    let a = answers x (g .open-waits) (i .fair) (waiting s g i u) in
+    let same = rule-next g x (a .0) (a .1) in
+    round x (a .0) u e (a .2)
+    (subst (λ (z : Game). Chosen s z (length xs) h) same (ruled-chosen s (answered g x) xs h r (subst⁻¹ (Safe s) same (safe-next s g i x (a .0) (a .2)))))
+
+-- Demand 3, played by the answering rule
+pub demand-3 : Demand3
+demand-3 w t s e xs g r =
+    let start-safe = begin w t s (accepted-exactly w t s .0 e) in
+    let c = ruled-chosen s (start s) xs g r start-safe in
+    let i = (chosen-safe s (start s) (length xs) g c start-safe) .0 in (
+      (demand-3-chosen w t s e (length xs) g c) .0,
+      λ u x m.
+          let a = answers x (g .open-waits) (i .fair) (waiting s g i u) in
+          let f = choice-empty s g i x (a .0) (a .2) in
+          record { choice = a .0; is-answer = a .1; is-allowed = a .2; was-empty = f .0; not-theirs = f .1 },
+    )
+
+-- a game against an opponent, to the end: `fuel` is at least the number of waits left
+to-the-end : (s : Sheet) (opponent : Game → ℕ) → ((g : Game) → T (not (isOver s g)) → T (isEmpty s g (opponent g)))
+    → (fuel : ℕ) (g : Game) → Safe s g → waitsIn (g .open-waits) ≤ fuel
+    → (xs : List ℕ) × (h : Game) × Ruled s g xs h × T (isOver s h) × (length xs ≤ fuel)
+to-the-end s opponent moves zero g i c =
+    ⊎-elim (λ o. ([], g, no-move, o, omega arith)) (λ u. absurd (omega (arith, c, waiting s g i u))) (decide (isOver s g))
+to-the-end s opponent moves (suc fuel) g i c =
+    ⊎-elim
+    (λ o. ([], g, no-move, o, omega arith))
+    (λ u.
+    let x = opponent g in
+    let a = answers x (g .open-waits) (i .fair) (waiting s g i u) in
+    let same = rule-next g x (a .0) (a .1) in
+    let fewer : waitsIn (next g x (a .0) .open-waits) ≤ fuel = unfold next in omega (arith, count-opened (g .open-waits) (a .0)) in
+    let r =
+    to-the-end s opponent moves fuel (answered g x)
+    (subst⁻¹ (Safe s) same (safe-next s g i x (a .0) (a .2)))
+    (subst⁻¹ (λ (z : Game). waitsIn (z .open-waits) ≤ fuel) same fewer)
+    in
+    (x ∷ r .0, r .1, one-move u (moves g u) (r .2), r .3, omega (arith, r .4)))
+    (decide (isOver s g))
+
+pub demand-3-joined : Demand3Joined
+demand-3-joined w t s e opponent moves =
+    to-the-end s opponent moves (waitCount s) (start s) (begin w t s (accepted-exactly w t s .0 e)) (omega (arith, all-waits s))
+
+-- Play's reply to such moves
+step-got : (s : Sheet) (g : Game) (x : ℕ) → T (not (isOver s g)) → T (isEmpty s g x) → step s g x ≡ got (answered g x)
+unfolding step isEmpty refuseIf _>>=_
+step-got s g x u e =
+    rw (
+      false-of (isOver s g) (T-not (isOver s g) u),
+      true-of (isCell (s .board) x) (fst (isCell (s .board) x) (not (isTaken s g x)) e),
+      false-of (isTaken s g x) (T-not (isTaken s g x) (snd (isCell (s .board) x) (not (isTaken s g x)) e)),
+    )
+
+ruled-rounds : (s : Sheet) (g : Game) (place : ℕ) (xs : List ℕ) (h : Game) → Ruled s g xs h → rounds s g place xs ≡ played h
+unfolding rounds
+ruled-rounds s g place _ _ no-move = refl
+ruled-rounds s g place _ h (one-move {x = x} {xs = xs} u e r) = rw (step-got s g x u e, rounds) (ruled-rounds s (answered g x) (place + 1) xs h r)
+
+chosen-answers : (s : Sheet) (g : Game) (n : ℕ) (h : Game) → Chosen s g n h → length (h .answers) ≡ length (g .answers) + n
+unfolding next
+chosen-answers s g _ _ no-round = omega arith
+chosen-answers s g _ h (round {n = n} x k u e a r) =
+    omega (arith, chosen-answers s (next g x k) n h r, length-append (g .answers) (taken (g .open-waits) k ∷ []))
+
+pub demand-3-played : Demand3Played
+unfolding play playOn playedOut refuseIf _>>=_
+demand-3-played w t s e xs g r room enough =
+    record {
+      reply = rw (e, le-ltb room (length xs) enough, ruled-rounds s (start s) 1 xs g r);
+      one-each = counted (ruled-chosen s (start s) xs g r (begin w t s (accepted-exactly w t s .0 e)));
+    }
+  where
+    counted : Chosen s (start s) (length xs) g → length (g .answers) ≡ length xs
+    counted c = let none : length (start s .answers) ≡ 0 = unfold start in refl in omega (arith, none, chosen-answers s (start s) (length xs) g c)

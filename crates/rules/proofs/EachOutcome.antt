@@ -1,0 +1,125 @@
+-- A property of each outcome, and what becomes of it when a choice opens other waits.
+use mathlib.Core.Path.{_≡_, refl, subst}
+use mathlib.Core.List.{List, [], _∷_, _++_, map, append-assoc}
+use mathlib.Core.Logic.{_⊎_, inl, inr}
+use Prim.Native.Nat.{ℕ, zero, suc}
+use lib.Dec.{T, eqb}
+use Rattle.rules.specs.Words.{_∈_, at-head, in-tail, among}
+use Rattle.rules.specs.Tree.{Waits, noWaits, wait, Moves, noMoves, move, stone}
+use Rattle.rules.specs.Outcomes.{eachWithEach, outcomesOfWaits, outcomesOfMoves}
+use Rattle.rules.specs.Answering.{PlaceIn, cellThere, waitsThere, Choice, taken, andThen, opened}
+use Rattle.rules.proofs.Tests.{left, right, cases}
+use Rattle.rules.proofs.Lists.{in-append, append-left, append-right}
+
+abbrev pub Each : (List ℕ → Type 0) → List (List ℕ) → Type 0
+Each K [] = Unit {0}
+Each K (o ∷ os) = K o × Each K os
+
+pub each-in : (K : List ℕ → Type 0) (os : List (List ℕ)) → ((o : List ℕ) → o ∈ os → K o) → Each K os
+each-in K [] h = tt
+each-in K (o ∷ os) h = (h o at-head, each-in K os (λ q i. h q (in-tail i)))
+
+each-mono : (K L : List ℕ → Type 0) → ((o : List ℕ) → K o → L o) → (os : List (List ℕ)) → Each K os → Each L os
+each-mono K L f [] h = tt
+each-mono K L f (o ∷ os) h = (f o (h .0), each-mono K L f os (h .1))
+
+each-append : (K : List ℕ → Type 0) (os ps : List (List ℕ)) → Each K os → Each K ps → Each K (os ++ ps)
+each-append K [] ps h k = k
+each-append K (o ∷ os) ps h k = (h .0, each-append K os ps (h .1) k)
+
+each-front : (K : List ℕ → Type 0) (os ps : List (List ℕ)) → Each K (os ++ ps) → Each K os
+each-front K [] ps h = tt
+each-front K (o ∷ os) ps h = (h .0, each-front K os ps (h .1))
+
+each-back : (K : List ℕ → Type 0) (os ps : List (List ℕ)) → Each K (os ++ ps) → Each K ps
+each-back K [] ps h = h
+each-back K (o ∷ os) ps h = each-back K os ps (h .1)
+
+each-map : (K : List ℕ → Type 0) (f : List ℕ → List ℕ) (os : List (List ℕ)) → Each (λ o. K (f o)) os → Each K (map f os)
+each-map K f [] h = tt
+each-map K f (o ∷ os) h = (h .0, each-map K f os (h .1))
+
+pub each-unmap : (K : List ℕ → Type 0) (f : List ℕ → List ℕ) (os : List (List ℕ)) → Each K (map f os) → Each (λ o. K (f o)) os
+each-unmap K f [] h = tt
+each-unmap K f (o ∷ os) h = (h .0, each-unmap K f os (h .1))
+
+each-with : (K : List ℕ → Type 0) (os ps : List (List ℕ)) → Each (λ a. Each (λ b. K (a ++ b)) ps) os → Each K (eachWithEach os ps)
+unfolding eachWithEach
+each-with K [] ps h = tt
+each-with K (o ∷ os) ps h = each-append K (map (λ b. o ++ b) ps) (eachWithEach os ps) (each-map K (λ b. o ++ b) ps (h .0)) (each-with K os ps (h .1))
+
+each-without : (K : List ℕ → Type 0) (os ps : List (List ℕ)) → Each K (eachWithEach os ps) → Each (λ a. Each (λ b. K (a ++ b)) ps) os
+unfolding eachWithEach
+each-without K [] ps h = tt
+each-without K (o ∷ os) ps h = (
+  each-unmap K (λ b. o ++ b) ps (each-front K (map (λ b. o ++ b) ps) (eachWithEach os ps) h),
+  each-without K os ps (each-back K (map (λ b. o ++ b) ps) (eachWithEach os ps) h),
+)
+
+-- the outcomes of a move of a wait are outcomes of the wait
+each-at : (K : List ℕ → Type 0) (ms : Moves) (p : PlaceIn ms) → Each K (outcomesOfMoves ms) → Each (λ o. K (stone (cellThere ms p) ++ o)) (outcomesOfWaits (waitsThere ms p))
+unfolding outcomesOfMoves
+each-at K noMoves p h = absurd p
+each-at K (move line c ws ms) (inl u) h = each-unmap K (λ o. stone c ++ o) (outcomesOfWaits ws) (each-front K (map (λ o. stone c ++ o) (outcomesOfWaits ws)) (outcomesOfMoves ms) h)
+each-at K (move line c ws ms) (inr p) h = each-at K ms p (each-back K (map (λ o. stone c ++ o) (outcomesOfWaits ws)) (outcomesOfMoves ms) h)
+
+each-then : (K : List ℕ → Type 0) (vs ws : Waits) → Each (λ o. Each (λ b. K (o ++ b)) (outcomesOfWaits ws)) (outcomesOfWaits vs) → Each K (outcomesOfWaits (andThen vs ws))
+unfolding outcomesOfWaits
+each-then K noWaits ws h = h .0
+each-then K (wait line ms vs) ws h =
+    each-with K (outcomesOfMoves ms) (outcomesOfWaits (andThen vs ws))
+    (each-mono
+    (λ a. Each (λ o. Each (λ b. K ((a ++ o) ++ b)) (outcomesOfWaits ws)) (outcomesOfWaits vs))
+    (λ a. Each (λ b. K (a ++ b)) (outcomesOfWaits (andThen vs ws)))
+    (λ a g. each-then (λ b. K (a ++ b)) vs ws
+    (each-mono (λ o. Each (λ b. K ((a ++ o) ++ b)) (outcomesOfWaits ws)) (λ o. Each (λ b. K (a ++ (o ++ b))) (outcomesOfWaits ws))
+    (λ o. each-mono (λ b. K ((a ++ o) ++ b)) (λ b. K (a ++ (o ++ b))) (λ b. subst K (append-assoc a o b)) (outcomesOfWaits ws))
+    (outcomesOfWaits vs) g))
+    (outcomesOfMoves ms)
+    (each-without (λ o. Each (λ b. K (o ++ b)) (outcomesOfWaits ws)) (outcomesOfMoves ms) (outcomesOfWaits vs) h))
+
+-- every cell of the first list is one of the second
+abbrev pub Inside : List ℕ → List ℕ → Type 0
+Inside o r = (x : ℕ) → T (among o x) → T (among r x)
+
+stone-inside : (c : ℕ) (o : List ℕ) → Inside (stone c ++ o) (c ∷ o)
+unfolding stone among
+stone-inside zero o x h = right (eqb x 0) (among o x) h
+stone-inside (suc c) o x h = h
+
+-- a stone taken out of the second part of a list, and put in front
+slide : (c : ℕ) (a o r : List ℕ) → Inside o (c ∷ r) → Inside (a ++ o) (c ∷ (a ++ r))
+unfolding among
+slide c a o r f x h =
+    elim (in-append x a o h) [
+      | inl i ↦ right (eqb x c) (among (a ++ r) x) (append-left x a r i)
+      | inr i ↦
+          elim (cases (eqb x c) (among r x) (f x i)) [
+            | inl e ↦ left (eqb x c) (among (a ++ r) x) e
+            | inr e ↦ right (eqb x c) (among (a ++ r) x) (append-right x a r e)
+          ]
+    ]
+
+after-stone : (c : ℕ) (o b : List ℕ) → Inside ((stone c ++ o) ++ b) (c ∷ (o ++ b))
+after-stone c o b x h = stone-inside c (o ++ b) x (subst (λ (l : List ℕ). T (among l x)) (append-assoc (stone c) o b) h)
+
+-- Each outcome of the waits open after a choice has, with the stone taken, the cells of an outcome of the waits open before
+pub each-opened : (ws : Waits) (k : Choice ws) (K L : List ℕ → Type 0)
+    → ((o r : List ℕ) → Inside o (taken ws k ∷ r) → K o → L r)
+    → Each K (outcomesOfWaits ws) → Each L (outcomesOfWaits (opened ws k))
+unfolding outcomesOfWaits
+each-opened noWaits k K L f h = absurd k
+each-opened (wait line ms ws) (inl p) K L f h =
+    let c = cellThere ms p in
+    each-then L (waitsThere ms p) ws
+    (each-mono (λ o. Each (λ b. K ((stone c ++ o) ++ b)) (outcomesOfWaits ws)) (λ o. Each (λ b. L (o ++ b)) (outcomesOfWaits ws))
+    (λ o. each-mono (λ b. K ((stone c ++ o) ++ b)) (λ b. L (o ++ b)) (λ b. f ((stone c ++ o) ++ b) (o ++ b) (after-stone c o b)) (outcomesOfWaits ws))
+    (outcomesOfWaits (waitsThere ms p))
+    (each-at (λ a. Each (λ b. K (a ++ b)) (outcomesOfWaits ws)) ms p (each-without K (outcomesOfMoves ms) (outcomesOfWaits ws) h)))
+each-opened (wait line ms ws) (inr k) K L f h =
+    each-with L (outcomesOfMoves ms) (outcomesOfWaits (opened ws k))
+    (each-mono (λ a. Each (λ b. K (a ++ b)) (outcomesOfWaits ws)) (λ a. Each (λ b. L (a ++ b)) (outcomesOfWaits (opened ws k)))
+    (λ a. each-opened ws k (λ b. K (a ++ b)) (λ b. L (a ++ b))
+    (λ o r inside. f (a ++ o) (a ++ r) (slide (taken ws k) a o r inside)))
+    (outcomesOfMoves ms)
+    (each-without K (outcomesOfMoves ms) (outcomesOfWaits ws) h))

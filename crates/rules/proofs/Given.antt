@@ -1,0 +1,309 @@
+-- Judge's reply is the one that the table gives: each case exactly when its plain statement holds.
+use mathlib.Core.Path.{_≡_, refl, sym, ap, subst, subst⁻¹, _∙_}
+use mathlib.Core.Logic.{_⊎_, inl, inr, _↔_}
+use Prim.Native.Nat.{ℕ, zero, suc, _+_, _≤_, _<_}
+use mathlib.Core.Bool.{Bool, true, false, not, _&&_, _||_}
+use mathlib.Core.List.{List, [], _∷_, _++_}
+use mathlib.Core.Option.{Option, none, some}
+use lib.Dec.{T, eqb, eqb-refl, eqb→eq, leb, ltb, leb→le, le→leb}
+use lib.ListN.{length, getD}
+use borrow.Author.Tests.{ltb-true, ltb-false, lt-ltb, le-ltb}
+use native.Mathlib.Omega.{arith}
+use Rattle.rules.specs.Sizes.{mostBytes, leastWorkspace, mostOutcomes}
+use Rattle.rules.specs.Words.{_∈_, at-head, in-tail, among}
+use Rattle.rules.specs.Board.{isCell}
+use Rattle.rules.specs.Text.{Bytes}
+use Rattle.rules.specs.Joining.{Joins, joined}
+use Rattle.rules.specs.Tree.{Wait, Move, Sheet, everyMove, everyWait, moveCount, waitCount}
+use Rattle.rules.specs.Reading.{Result, refused, got, readSheet}
+use Rattle.rules.specs.Fair.{Fault, inWaits, holding, inEvery, notApart, notElusive, firstFault, firstNotApart, firstNotElusive}
+use Rattle.rules.specs.Outcomes.{outcomes, outcomeCount}
+use Rattle.rules.specs.Entries.{_>>=_, refuseIf, refuseFault, refuseUnjoined, read, fair, satisfying, accepted, judged, judge}
+use Rattle.rules.specs.Plain.{IsApart, IsElusive, AllApart, AllElusive, AllJoin, WithinSizes, IsSheet, IsFirst, IsFirstUnjoined, Given, as-accepted, as-small, as-long, as-unread, as-not-apart, as-not-elusive, as-too-many, as-not-joined}
+use Rattle.rules.specs.declared.Board.{Board}
+use Rattle.rules.specs.declared.Player.{Player}
+use Rattle.rules.specs.declared.Verdict.{Verdict}
+use Rattle.rules.specs.declared.Verdict.the-variants.{Accepted, SmallWorkspace, LongText, NotApart, NotElusive, TooManyOutcomes, NotJoined}
+use Rattle.rules.proofs.Tests.{true-of, false-of, both, fst, snd, left, right, cases}
+use Rattle.rules.proofs.Lists.{all-cons, nothing-in}
+use Rattle.rules.proofs.Joining.{joined→joins, joins→joined}
+use Rattle.rules.proofs.Outcomes.{count-is-length}
+use Rattle.rules.proofs.Smallest.{Clean, none-clean, clean-none, first-is, is-first}
+use Rattle.rules.proofs.Steps.{not-refused, got-inj, then-got, refuseIf-got, refuseFault-got}
+
+-- apart and elusive, at a node
+at-most-one : (n : ℕ) → (2 ≤ n → ⊥) → n ≤ 1
+at-most-one zero h = omega arith
+at-most-one (suc zero) h = omega arith
+at-most-one (suc (suc n)) h = absurd (h (omega arith))
+
+apart-clean : (b : Board) (m : Move) → IsApart b m → (x : ℕ) → T (isCell b x) → T (notApart m x) → ⊥
+unfolding notApart
+apart-clean b m a x i h =
+    elim (cases (eqb x (m .cell) && inWaits (m .waits) x) (leb 2 (holding (m .waits) x)) h) [
+      | inl k ↦
+          let e = eqb→eq x (m .cell) (fst (eqb x (m .cell)) (inWaits (m .waits) x) k) in
+          a .own-not-under (subst (λ z. T (isCell b z)) e i) (subst (λ z. T (inWaits (m .waits) z)) e (snd (eqb x (m .cell)) (inWaits (m .waits) x) k))
+      | inr k ↦ omega (arith, leb→le 2 (holding (m .waits) x) k, a .in-one-wait x i)
+    ]
+
+clean-apart : (b : Board) (m : Move) → ((x : ℕ) → T (isCell b x) → T (notApart m x) → ⊥) → IsApart b m
+unfolding notApart
+clean-apart b m h =
+    record {
+      own-not-under =
+          λ i k.
+          h (m .cell) i
+          (left (eqb (m .cell) (m .cell) && inWaits (m .waits) (m .cell)) (leb 2 (holding (m .waits) (m .cell)))
+          (both (eqb (m .cell) (m .cell)) (inWaits (m .waits) (m .cell)) (eqb-refl (m .cell)) k));
+      in-one-wait =
+          λ x i.
+          at-most-one (holding (m .waits) x)
+          (λ two. h x i (right (eqb x (m .cell) && inWaits (m .waits) x) (leb 2 (holding (m .waits) x)) (le→leb 2 (holding (m .waits) x) two)));
+    }
+
+elusive-clean : (b : Board) (w : Wait) → IsElusive b w → (x : ℕ) → T (isCell b x) → T (notElusive w x) → ⊥
+unfolding notElusive
+elusive-clean b w a x i h = a .no-cell-in-all x i h
+
+clean-elusive : (b : Board) (w : Wait) → ((x : ℕ) → T (isCell b x) → T (notElusive w x) → ⊥) → IsElusive b w
+unfolding notElusive
+clean-elusive b w h = record { no-cell-in-all = h }
+
+-- over the whole tree
+pub apart-none : (s : Sheet) → AllApart s → firstNotApart s ≡ none
+unfolding firstNotApart
+apart-none s a = clean-none (s .board) (λ (m : Move). m .line) notApart (everyMove s) (λ m i. apart-clean (s .board) m (a m i))
+
+pub none-apart : (s : Sheet) → firstNotApart s ≡ none → AllApart s
+unfolding firstNotApart
+none-apart s e m i = clean-apart (s .board) m (none-clean (s .board) (λ (m : Move). m .line) notApart (everyMove s) e m i)
+
+pub elusive-none : (s : Sheet) → AllElusive s → firstNotElusive s ≡ none
+unfolding firstNotElusive
+elusive-none s a = clean-none (s .board) (λ (w : Wait). w .line) notElusive (everyWait s) (λ w i. elusive-clean (s .board) w (a w i))
+
+pub none-elusive : (s : Sheet) → firstNotElusive s ≡ none → AllElusive s
+unfolding firstNotElusive
+none-elusive s e w i = clean-elusive (s .board) w (none-clean (s .board) (λ (w : Wait). w .line) notElusive (everyWait s) e w i)
+
+-- outcomes one by one, the first with number n
+module _ (b : Board) (p : Player) where
+  abbrev Joining : List ℕ → Type 0
+  Joining o = Joins b p (among o)
+
+  all-joined : (n : ℕ) (os : List (List ℕ)) → ((o : List ℕ) → o ∈ os → Joining o) → refuseUnjoined b p n os ≡ got tt
+  unfolding refuseUnjoined
+  all-joined n [] h = refl
+  all-joined n (o ∷ os) h =
+      rw (true-of (joined b p (among o)) (joins→joined b p (among o) (h o at-head)), refuseUnjoined) (all-joined (n + 1) os (λ q i. h q (in-tail i)))
+
+  first-unjoined : (n : ℕ) (os : List (List ℕ)) (i : ℕ) → i < length os → (Joining (getD os i []) → ⊥) → ((j : ℕ) → j < i → Joining (getD os j []))
+      → refuseUnjoined b p n os ≡ refused (NotJoined (n + i))
+  unfolding refuseUnjoined
+  first-unjoined n [] i l not-so so = absurd (omega arith)
+  first-unjoined n (o ∷ os) zero l not-so so =
+      let z : n ≡ n + 0 = omega arith in
+      rw (false-of (joined b p (among o)) (λ t. not-so (joined→joins b p (among o) t)), refuseUnjoined) (ap (λ (k : ℕ). refused (NotJoined k)) z)
+  first-unjoined n (o ∷ os) (suc i) l not-so so =
+      let z : n + 1 + i ≡ n + suc i = omega arith in
+      rw (true-of (joined b p (among o)) (joins→joined b p (among o) (so 0 (omega arith))), refuseUnjoined)
+      (first-unjoined (n + 1) os i (omega arith) not-so (λ j h. so (suc j) (omega arith)) ∙ ap (λ (k : ℕ). refused (NotJoined k)) z)
+
+  -- what the walk comes to
+  data Walked (n : ℕ) (os : List (List ℕ)) : Result (Unit {0}) → Type 0 where
+    all : ((o : List ℕ) → o ∈ os → Joining o) → Walked n os (got tt)
+    first : (i : ℕ) → i < length os → (Joining (getD os i []) → ⊥) → ((j : ℕ) → j < i → Joining (getD os j [])) → Walked n os (refused (NotJoined (n + i)))
+
+  walked-more : (n : ℕ) (o : List ℕ) (os : List (List ℕ)) (r : Result (Unit {0})) → Joining o → Walked (n + 1) os r → Walked n (o ∷ os) r
+  walked-more n o os r j (all h) = all (all-cons Joining o os j h)
+  walked-more n o os r j (first i l not-so so) =
+      let z : n + suc i ≡ n + 1 + i = omega arith in
+      subst (λ (k : ℕ). Walked n (o ∷ os) (refused (NotJoined k))) z (first (suc i) (omega arith) not-so (joined-below so))
+    where
+      joined-below : ((k : ℕ) → k < i → Joining (getD os k [])) → (k : ℕ) → k < suc i → Joining (getD (o ∷ os) k [])
+      joined-below y zero h = j
+      joined-below y (suc k) h = y k (omega arith)
+
+  walked : (n : ℕ) (os : List (List ℕ)) → Walked n os (refuseUnjoined b p n os)
+  unfolding refuseUnjoined
+  walked n [] = all (λ o i. absurd (nothing-in i))
+  walked n (o ∷ os) = go (joined b p (among o)) refl (walked (n + 1) os)
+    where
+      go : (t : Bool) → joined b p (among o) ≡ t → Walked (n + 1) os (refuseUnjoined b p (n + 1) os) → Walked n (o ∷ os) (refuseUnjoined b p n (o ∷ os))
+      go true e ih = rw (e, refuseUnjoined) (walked-more n o os (refuseUnjoined b p (n + 1) os) (joined→joins b p (among o) (subst⁻¹ T e tt)) ih)
+      go false e ih =
+          let z : n + 0 ≡ n = omega arith in
+          rw (e, refuseUnjoined)
+          (subst (λ (k : ℕ). Walked n (o ∷ os) (refused (NotJoined k))) z
+          (first 0 (omega arith) (λ k. subst T e (joins→joined b p (among o) k)) (λ j h. absurd (omega arith))))
+
+-- The reply, stage by stage
+module _ (w : ℕ) (t : Bytes) where
+  reply-small : w < leastWorkspace → judge w t ≡ SmallWorkspace
+  unfolding judge judged accepted read refuseIf _>>=_
+  reply-small h = rw (lt-ltb w leastWorkspace h)
+
+  reply-long : leastWorkspace ≤ w → mostBytes < length t → judge w t ≡ LongText
+  unfolding judge judged accepted read refuseIf _>>=_
+  reply-long h k = rw (le-ltb w leastWorkspace h, lt-ltb mostBytes (length t) k)
+
+  -- within the sizes the reading's reply, or what the checks of a sheet come to
+  pub accepted-read : WithinSizes w t → accepted w t ≡ (readSheet t >>= λ s. fair s >>= satisfying)
+  unfolding accepted read refuseIf _>>=_
+  accepted-read z = rw (le-ltb w leastWorkspace (z .enough), le-ltb mostBytes (length t) (z .short))
+
+  reply-unread : (v : Verdict) → WithinSizes w t → readSheet t ≡ refused v → judge w t ≡ v
+  unfolding judge judged _>>=_
+  reply-unread v z e = rw (accepted-read z, e)
+
+  reply-got : (s : Sheet) → WithinSizes w t → readSheet t ≡ got s → judge w t ≡ judged (fair s >>= satisfying)
+  unfolding judge _>>=_
+  reply-got s z e = rw (accepted-read z, e)
+
+-- a sheet that was read
+module _ (s : Sheet) where
+  fault-apart : (f : Fault) → firstNotApart s ≡ some f → judged (fair s >>= satisfying) ≡ NotApart (f .line) (f .cell)
+  unfolding judged fair refuseFault _>>=_
+  fault-apart f e = rw e
+
+  fault-elusive : (f : Fault) → firstNotApart s ≡ none → firstNotElusive s ≡ some f → judged (fair s >>= satisfying) ≡ NotElusive (f .line) (f .cell)
+  unfolding judged fair refuseFault _>>=_
+  fault-elusive f a e = rw (a, e)
+
+  fault-many : firstNotApart s ≡ none → firstNotElusive s ≡ none → mostOutcomes < outcomeCount s → judged (fair s >>= satisfying) ≡ TooManyOutcomes
+  unfolding judged fair refuseFault refuseIf _>>=_
+  fault-many a e m = rw (a, e, lt-ltb mostOutcomes (outcomeCount s) m)
+
+  pub fair-passed : firstNotApart s ≡ none → firstNotElusive s ≡ none → outcomeCount s ≤ mostOutcomes → fair s ≡ got s
+  unfolding fair refuseFault refuseIf _>>=_
+  fair-passed a e m = rw (a, e, le-ltb mostOutcomes (outcomeCount s) m)
+
+  fault-joined : (r : Result (Unit {0})) → refuseUnjoined (s .board) (s .player) 0 (outcomes s) ≡ r → satisfying s ≡ (r >>= λ u. got s)
+  unfolding satisfying
+  fault-joined r e = rw e
+
+-- every case of the table is judge's reply
+pub given-judge : (w : ℕ) (t : Bytes) (v : Verdict) → Given w t v → judge w t ≡ v
+unfolding judged _>>=_ firstNotApart firstNotElusive
+given-judge w t _ (as-accepted s h) =
+    reply-got w t s (h .sizes) (h .reads)
+    ∙ ap (λ (r : Result Sheet). judged (r >>= satisfying)) (fair-passed s (apart-none s (h .apart)) (elusive-none s (h .elusive)) (h .few))
+    ∙ ap judged (fault-joined s (got tt) (all-joined (s .board) (s .player) 0 (outcomes s) (h .satisfying)))
+given-judge w t _ (as-small h) = reply-small w t h
+given-judge w t _ (as-long h k) = reply-long w t h k
+given-judge w t _ (as-unread v z e) = reply-unread w t v z e
+given-judge w t _ (as-not-apart s f z e h) =
+    reply-got w t s z e ∙ fault-apart s f (is-first (s .board) (λ (m : Move). m .line) notApart (everyMove s) f h)
+given-judge w t _ (as-not-elusive s f z e a h) =
+    reply-got w t s z e ∙ fault-elusive s f (apart-none s a) (is-first (s .board) (λ (v : Wait). v .line) notElusive (everyWait s) f h)
+given-judge w t _ (as-too-many s z e a l m) = reply-got w t s z e ∙ fault-many s (apart-none s a) (elusive-none s l) m
+given-judge w t _ (as-not-joined s i z e a l m h) =
+    reply-got w t s z e
+    ∙ ap (λ (r : Result Sheet). judged (r >>= satisfying)) (fair-passed s (apart-none s a) (elusive-none s l) m)
+    ∙ ap judged
+    (fault-joined s (refused (NotJoined (0 + i)))
+    (first-unjoined (s .board) (s .player) 0 (outcomes s) i (omega (arith, count-is-length s, h .is-number)) (h .not-joined) (h .joined-before)))
+    ∙ ap NotJoined (number i)
+  where
+    number : (k : ℕ) → 0 + k ≡ k
+    number k = omega arith
+
+-- judge's reply is a case of the table
+module _ (w : ℕ) (t : Bytes) (z : WithinSizes w t) (s : Sheet) (e : readSheet t ≡ got s) where
+  joined-given : AllApart s → AllElusive s → outcomeCount s ≤ mostOutcomes → (r : Result (Unit {0})) → Walked (s .board) (s .player) 0 (outcomes s) r
+      → Given w t (judged (r >>= λ u. got s))
+  unfolding judged _>>=_
+  joined-given a l m _ (all h) = as-accepted s (record { sizes = z; reads = e; apart = a; elusive = l; few = m; satisfying = h })
+  joined-given a l m _ (first i k not-so so) =
+      let n : 0 + i ≡ i = omega arith in
+      rw n (as-not-joined s i z e a l m (record { is-number = omega (arith, count-is-length s); not-joined = not-so; joined-before = so }))
+
+  count-given : AllApart s → AllElusive s → (b : Bool) → ltb mostOutcomes (outcomeCount s) ≡ b → Given w t (judged (fair s >>= satisfying))
+  unfolding _>>=_
+  count-given a l true q =
+      subst⁻¹ (Given w t) (fault-many s (apart-none s a) (elusive-none s l) (ltb-true mostOutcomes (outcomeCount s) q))
+      (as-too-many s z e a l (ltb-true mostOutcomes (outcomeCount s) q))
+  count-given a l false q =
+      let m = ltb-false mostOutcomes (outcomeCount s) q in
+      subst⁻¹ (λ (r : Result Sheet). Given w t (judged (r >>= satisfying))) (fair-passed s (apart-none s a) (elusive-none s l) m)
+      (subst⁻¹ (λ (r : Result Sheet). Given w t (judged r)) (fault-joined s (refuseUnjoined (s .board) (s .player) 0 (outcomes s)) refl)
+      (joined-given a l m (refuseUnjoined (s .board) (s .player) 0 (outcomes s)) (walked (s .board) (s .player) 0 (outcomes s))))
+
+  elusive-given : AllApart s → (f : Option Fault) → firstNotElusive s ≡ f → Given w t (judged (fair s >>= satisfying))
+  unfolding firstNotElusive
+  elusive-given a none q = count-given a (none-elusive s q) (ltb mostOutcomes (outcomeCount s)) refl
+  elusive-given a (some f) q =
+      subst⁻¹ (Given w t) (fault-elusive s f (apart-none s a) q)
+      (as-not-elusive s f z e a (first-is (s .board) (λ (v : Wait). v .line) notElusive (everyWait s) f q))
+
+  apart-given : (f : Option Fault) → firstNotApart s ≡ f → Given w t (judged (fair s >>= satisfying))
+  unfolding firstNotApart
+  apart-given none q = elusive-given (none-apart s q) (firstNotElusive s) refl
+  apart-given (some f) q =
+      subst⁻¹ (Given w t) (fault-apart s f q) (as-not-apart s f z e (first-is (s .board) (λ (m : Move). m .line) notApart (everyMove s) f q))
+
+read-given : (w : ℕ) (t : Bytes) → WithinSizes w t → (r : Result Sheet) → readSheet t ≡ r → Given w t (judge w t)
+read-given w t z (refused v) e = subst⁻¹ (Given w t) (reply-unread w t v z e) (as-unread v z e)
+read-given w t z (got s) e = subst⁻¹ (Given w t) (reply-got w t s z e) (apart-given w t z s e (firstNotApart s) refl)
+
+pub judge-given : (w : ℕ) (t : Bytes) → Given w t (judge w t)
+judge-given w t = sized (ltb w leastWorkspace) refl
+  where
+    texted : leastWorkspace ≤ w → (b : Bool) → ltb mostBytes (length t) ≡ b → Given w t (judge w t)
+    texted h true e =
+        let k = ltb-true mostBytes (length t) e in
+        subst⁻¹ (Given w t) (reply-long w t h k) (as-long h k)
+    texted h false e = read-given w t (record { enough = h; short = ltb-false mostBytes (length t) e }) (readSheet t) refl
+
+    sized : (b : Bool) → ltb w leastWorkspace ≡ b → Given w t (judge w t)
+    sized true e =
+        let h = ltb-true w leastWorkspace e in
+        subst⁻¹ (Given w t) (reply-small w t h) (as-small h)
+    sized false e = texted (ltb-false w leastWorkspace e) (ltb mostBytes (length t)) refl
+
+-- demand 2, of judge: each reply exactly when the table gives it
+pub given-exactly : (w : ℕ) (t : Bytes) (v : Verdict) → (judge w t ≡ v) ↔ Given w t v
+given-exactly w t v = (λ e. subst (Given w t) e (judge-given w t), given-judge w t v)
+
+-- demand 2, of acceptance: a sheet is accepted exactly when it is one by document 01
+walked-all : (b : Board) (p : Player) (n : ℕ) (os : List (List ℕ)) (r : Result (Unit {0})) → Walked b p n os r → (u : Unit {0}) → r ≡ got u
+    → (o : List ℕ) → o ∈ os → Joins b p (among o)
+walked-all b p n os _ (all h) u e = h
+walked-all b p n os _ (first i k not-so so) u e = absurd (not-refused e)
+
+accepted→ : (w : ℕ) (t : Bytes) (s : Sheet) → accepted w t ≡ got s → IsSheet w t s
+unfolding accepted read fair satisfying
+accepted→ w t s e =
+    let a = then-got (read w t) _ s e in
+    let b = then-got (fair (a .0)) _ s (a .2) in
+    let c = then-got (refuseIf (ltb w leastWorkspace) SmallWorkspace) _ (a .0) (a .1) in
+    let d = then-got (refuseIf (ltb mostBytes (length t)) LongText) _ (a .0) (c .2) in
+    let f = then-got (refuseFault NotApart (firstNotApart (a .0))) _ (b .0) (b .1) in
+    let g = then-got (refuseFault NotElusive (firstNotElusive (a .0))) _ (b .0) (f .2) in
+    let h = then-got (refuseIf (ltb mostOutcomes (outcomeCount (a .0))) TooManyOutcomes) _ (b .0) (g .2) in
+    let i = then-got (refuseUnjoined (b .0 .board) (b .0 .player) 0 (outcomes (b .0))) _ s (b .2) in
+    let first-same : a .0 ≡ b .0 = got-inj (h .2) in
+    let last-same : b .0 ≡ s = got-inj (i .2) in
+    let same : a .0 ≡ s = first-same ∙ last-same in
+    record {
+      sizes = record { enough = ltb-false w leastWorkspace (refuseIf-got _ _ _ (c .1)); short = ltb-false mostBytes (length t) (refuseIf-got _ _ _ (d .1)) };
+      reads = d .2 ∙ ap got same;
+      apart = none-apart s (subst (λ (z : Sheet). firstNotApart z ≡ none) same (refuseFault-got _ _ _ (f .1)));
+      elusive = none-elusive s (subst (λ (z : Sheet). firstNotElusive z ≡ none) same (refuseFault-got _ _ _ (g .1)));
+      few = subst (λ (z : Sheet). outcomeCount z ≤ mostOutcomes) same (ltb-false mostOutcomes (outcomeCount (a .0)) (refuseIf-got _ _ _ (h .1)));
+      satisfying =
+          subst (λ (z : Sheet). AllJoin z) last-same
+          (walked-all (b .0 .board) (b .0 .player) 0 (outcomes (b .0)) _ (walked (b .0 .board) (b .0 .player) 0 (outcomes (b .0))) (i .0) (i .1));
+    }
+
+→accepted : (w : ℕ) (t : Bytes) (s : Sheet) → IsSheet w t s → accepted w t ≡ got s
+unfolding _>>=_
+→accepted w t s h =
+    accepted-read w t (h .sizes)
+    ∙ ap (λ (r : Result Sheet). r >>= λ u. fair u >>= satisfying) (h .reads)
+    ∙ ap (λ (r : Result Sheet). r >>= satisfying) (fair-passed s (apart-none s (h .apart)) (elusive-none s (h .elusive)) (h .few))
+    ∙ fault-joined s (got tt) (all-joined (s .board) (s .player) 0 (outcomes s) (h .satisfying))
+
+pub accepted-exactly : (w : ℕ) (t : Bytes) (s : Sheet) → (accepted w t ≡ got s) ↔ IsSheet w t s
+accepted-exactly w t s = (accepted→ w t s, →accepted w t s)

@@ -1,0 +1,14 @@
+pub mod Tests
+pub mod Lists
+pub mod Joining
+pub mod Outcomes
+pub mod Steps
+pub mod Reading
+pub mod WellRead
+pub mod Smallest
+pub mod Given
+pub mod Opening
+pub mod Answering
+pub mod EachOutcome
+pub mod Cover
+pub mod OneReply

@@ -1,0 +1,180 @@
+-- The smallest cell of a set, and the first faulty node of a list: the computed ones are those that the plain statements name.
+use mathlib.Core.Path.{_≡_, refl, sym, ap, subst, subst⁻¹, _∙_}
+use mathlib.Core.Logic.{_⊎_, inl, inr, _↔_}
+use Prim.Native.Nat.{ℕ, zero, suc, _+_, _≤_, _<_}
+use native.Mathlib.Nat.{le-antisymm}
+use mathlib.Core.Bool.{Bool, true, false, not, _&&_, _||_}
+use mathlib.Core.List.{List, [], _∷_, _++_}
+use mathlib.Core.Option.{Option, none, some}
+use lib.Dec.{T, eqb, eqb-refl, eqb→eq, leb, leb→le}
+use native.Mathlib.Omega.{arith}
+use Rattle.rules.specs.Words.{if_then_else_, _∈_, at-head, in-tail, among, keep, upTo, firstOrNone}
+use Rattle.rules.specs.Board.{cells, isCell, listed, smallest}
+use Rattle.rules.specs.Fair.{Fault, faultAt, firstFault}
+use Rattle.rules.specs.Plain.{IsFirst}
+use Rattle.rules.specs.declared.Board.{Board}
+use Rattle.rules.proofs.Tests.{fst, snd, left, right, cases}
+use Rattle.rules.proofs.Lists.{in-append, keep-in, up-to-in, all-cons, nothing-in}
+use Rattle.rules.proofs.Joining.{listed-in, in-listed}
+use Rattle.rules.proofs.Steps.{none≢some, some-inj}
+
+keep-append : (p : ℕ → Bool) (xs ys : List ℕ) → keep p (xs ++ ys) ≡ keep p xs ++ keep p ys
+unfolding keep
+keep-append p [] ys = refl
+keep-append p (x ∷ xs) ys = go (p x) (keep-append p xs ys)
+  where
+    go : (t : Bool) → keep p (xs ++ ys) ≡ keep p xs ++ keep p ys
+        → (if t then x ∷ keep p (xs ++ ys) else keep p (xs ++ ys)) ≡ (if t then x ∷ keep p xs else keep p xs) ++ keep p ys
+    go true e = ap (λ (l : List ℕ). x ∷ l) e
+    go false e = e
+
+-- the first of a list that gets a number more at its end, which is above all before
+first-snoc : (xs : List ℕ) (n : ℕ) → ((y : ℕ) → T (among xs y) → (firstOrNone xs ≤ y) × (y ≤ n))
+    → (p : ℕ → Bool) (y : ℕ) → T (among (xs ++ keep p (suc n ∷ [])) y) → firstOrNone (xs ++ keep p (suc n ∷ [])) ≤ y
+unfolding firstOrNone among keep
+first-snoc [] n h p y m = go (p (suc n)) m
+  where
+    go : (t : Bool) → T (among (if t then suc n ∷ [] else []) y) → firstOrNone (if t then suc n ∷ [] else []) ≤ y
+    go true k = elim (cases (eqb y (suc n)) false k) [ inl e ↦ omega (arith, eqb→eq y (suc n) e) | inr e ↦ absurd e ]
+    go false k = absurd k
+first-snoc (x ∷ xs) n h p y m =
+    elim (in-append y (x ∷ xs) (keep p (suc n ∷ [])) m) [
+      | inl k ↦ (h y k) .0
+      | inr k ↦
+          let a = h x (left (eqb x x) (among xs x) (eqb-refl x)) in
+          let b = (up-one ((keep-in p y (suc n ∷ []) k) .0)) in
+          omega (arith, a .1, b)
+    ]
+  where
+    up-one : T (among (suc n ∷ []) y) → y ≡ suc n
+    up-one k = elim (cases (eqb y (suc n)) false k) [ inl e ↦ eqb→eq y (suc n) e | inr e ↦ absurd e ]
+
+first-least : (set : ℕ → Bool) (n y : ℕ) → T (among (keep set (upTo n)) y) → firstOrNone (keep set (upTo n)) ≤ y
+unfolding upTo keep among
+first-least set zero y m = absurd m
+first-least set (suc n) y m =
+    let e = keep-append set (upTo n) (suc n ∷ []) in
+    subst⁻¹ (λ (l : List ℕ). firstOrNone l ≤ y) e
+    (first-snoc (keep set (upTo n)) n
+    (λ z k. (first-least set n z k, (up-to-in n z ((keep-in set z (upTo n) k) .0)) .1))
+    set y (subst (λ (l : List ℕ). T (among l y)) e m))
+
+first-in : (xs : List ℕ) (x : ℕ) → firstOrNone xs ≡ suc x → T (among xs (suc x))
+unfolding firstOrNone among
+first-in [] x e = absurd (omega arith)
+first-in (y ∷ ys) x e = left (eqb (suc x) y) (among ys (suc x)) (subst (λ z. T (eqb (suc x) z)) (sym e) (eqb-refl (suc x)))
+
+-- what the smallest cell of a set is
+pub record IsSmallest (b : Board) (set : ℕ → Bool) (c : ℕ) : Type 0 where
+  pub is-cell : T (isCell b c)
+  pub in-set : T (set c)
+  pub least : (x : ℕ) → T (isCell b x) → T (set x) → c ≤ x
+
+pub smallest-some : (b : Board) (set : ℕ → Bool) (c : ℕ) → smallest b set ≡ suc c → IsSmallest b set (suc c)
+unfolding smallest listed
+smallest-some b set c e =
+    let l = listed-in b set (suc c) (first-in (listed b set) c e) in
+    record {
+      is-cell = l .0;
+      in-set = l .1;
+      least = λ x i h. subst (λ (k : ℕ). k ≤ x) e (first-least set (cells b) x (in-listed b set x i h));
+    }
+
+cell-pos : (b : Board) (x : ℕ) → T (isCell b x) → 1 ≤ x
+unfolding isCell
+cell-pos b x h = leb→le 1 x (fst (leb 1 x) (leb x (cells b)) h)
+
+pub smallest-none : (b : Board) (set : ℕ → Bool) → smallest b set ≡ 0 → (x : ℕ) → T (isCell b x) → T (set x) → ⊥
+unfolding smallest listed
+smallest-none b set e x i h = none (listed b set) e (λ y m. cell-pos b y ((listed-in b set y m) .0)) (in-listed b set x i h)
+  where
+    none : (xs : List ℕ) → firstOrNone xs ≡ 0 → ((y : ℕ) → T (among xs y) → 1 ≤ y) → T (among xs x) → ⊥
+    none [] e p m = unfold among in m
+    none (y ∷ ys) e p m = unfold firstOrNone in omega (arith, e, p y (unfold among in left (eqb y y) (among ys y) (eqb-refl y)))
+
+-- a set's smallest cell is the only one so
+pub smallest-is : (b : Board) (set : ℕ → Bool) (c : ℕ) → IsSmallest b set c → smallest b set ≡ c
+smallest-is b set c s = go (smallest b set) refl
+  where
+    go : (k : ℕ) → smallest b set ≡ k → smallest b set ≡ c
+    go zero e = absurd (smallest-none b set e c (s .is-cell) (s .in-set))
+    go (suc k) e =
+        let t = smallest-some b set k e in
+        e ∙ le-antisymm (t .least c (s .is-cell) (s .in-set)) (s .least (suc k) (t .is-cell) (t .in-set))
+
+pub smallest-zero : (b : Board) (set : ℕ → Bool) → ((x : ℕ) → T (isCell b x) → T (set x) → ⊥) → smallest b set ≡ 0
+smallest-zero b set h = go (smallest b set) refl
+  where
+    go : (k : ℕ) → smallest b set ≡ k → smallest b set ≡ 0
+    go zero e = e
+    go (suc k) e = let t = smallest-some b set k e in absurd (h (suc k) (t .is-cell) (t .in-set))
+
+-- the first faulty node of a list
+module _ {N : Type 0} (b : Board) (line : N → ℕ) (faulty : N → ℕ → Bool) where
+  -- a node without a faulty cell
+  abbrev pub Clean : N → Type 0
+  Clean n = (x : ℕ) → T (isCell b x) → T (faulty n x) → ⊥
+
+  pub none-clean : (ns : List N) → firstFault b line faulty ns ≡ none → (n : N) → n ∈ ns → Clean n
+  unfolding firstFault faultAt
+  none-clean [] e = λ n i. absurd (nothing-in i)
+  none-clean (n ∷ ns) e = go (smallest b (faulty n)) refl (λ k. none-clean ns k)
+    where
+      go : (c : ℕ) → smallest b (faulty n) ≡ c → (firstFault b line faulty ns ≡ none → (m : N) → m ∈ ns → Clean m) → (m : N) → m ∈ (n ∷ ns) → Clean m
+      go zero q ih = all-cons Clean n ns (smallest-none b (faulty n) q) (ih (rw (q, faultAt, firstFault) at e))
+      go (suc c) q ih = absurd (none≢some (sym (rw (q, faultAt, firstFault) at e)))
+
+  pub clean-none : (ns : List N) → ((n : N) → n ∈ ns → Clean n) → firstFault b line faulty ns ≡ none
+  unfolding firstFault faultAt
+  clean-none [] h = refl
+  clean-none (n ∷ ns) h = rw (smallest-zero b (faulty n) (h n at-head), faultAt, firstFault) (clean-none ns (λ m i. h m (in-tail i)))
+
+  pub first-is : (ns : List N) (f : Fault) → firstFault b line faulty ns ≡ some f → IsFirst b line faulty ns f
+  unfolding firstFault faultAt
+  first-is [] f e = absurd (none≢some e)
+  first-is (n ∷ ns) f e = go (smallest b (faulty n)) refl (λ k. first-is ns f k)
+    where
+      go : (c : ℕ) → smallest b (faulty n) ≡ c → (firstFault b line faulty ns ≡ some f → IsFirst b line faulty ns f) → IsFirst b line faulty (n ∷ ns) f
+      go zero q ih =
+          let r = ih (rw (q, faultAt, firstFault) at e) in
+          record {
+            before = n ∷ r .before;
+            node = r .node;
+            after = r .after;
+            stands = ap (λ (l : List N). n ∷ l) (r .stands);
+            its-line = r .its-line;
+            its-cell = r .its-cell;
+            smallest-cell = r .smallest-cell;
+            none-before = all-cons Clean n (r .before) (smallest-none b (faulty n) q) (r .none-before);
+          }
+      go (suc c) q ih =
+          let t = smallest-some b (faulty n) c q in
+          subst (IsFirst b line faulty (n ∷ ns)) (some-inj (rw (q, faultAt, firstFault) at e))
+          (record {
+            before = [];
+            node = n;
+            after = ns;
+            stands = refl;
+            its-line = refl;
+            its-cell = (t .is-cell, t .in-set);
+            smallest-cell = t .least;
+            none-before = λ m i. absurd (nothing-in i);
+          })
+
+  first-after : (before : List N) (node : N) (after : List N) → ((n : N) → n ∈ before → Clean n) → (f : Fault) → f .line ≡ line node
+      → IsSmallest b (faulty node) (f .cell) → firstFault b line faulty (before ++ node ∷ after) ≡ some f
+  unfolding firstFault faultAt
+  first-after [] node after clean f l s = rw (smallest-is b (faulty node) (f .cell) s, firstFault) (found (f .cell) refl (s .is-cell))
+    where
+      found : (c : ℕ) → f .cell ≡ c → T (isCell b (f .cell)) → elim (faultAt (line node) (f .cell)) [ some g ↦ some g | none ↦ firstFault b line faulty after ] ≡ some f
+      found zero e i = absurd (omega (arith, e, cell-pos b (f .cell) i))
+      found (suc c) e i = rw (e, faultAt) (ap some (cc))
+  first-after (n ∷ ns) node after clean f l s =
+      rw (smallest-zero b (faulty n) (clean n at-head), faultAt, firstFault) (first-after ns node after (λ m i. clean m (in-tail i)) f l s)
+
+  -- the computed fault is the one that the plain statement names
+  pub is-first : (ns : List N) (f : Fault) → IsFirst b line faulty ns f → firstFault b line faulty ns ≡ some f
+  is-first ns f r =
+      ap (firstFault b line faulty) (r .stands)
+      ∙ first-after (r .before) (r .node) (r .after) (r .none-before) f (r .its-line)
+      (record { is-cell = r .its-cell .0; in-set = r .its-cell .1; least = r .smallest-cell })

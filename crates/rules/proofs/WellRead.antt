@@ -1,0 +1,175 @@
+-- Every text that reads gives a sheet that is `WellRead`.
+use mathlib.Core.Path.{_≡_, refl, sym, ap, ap₂, subst, subst⁻¹, _∙_}
+use mathlib.Core.Logic.{_≢_, _⊎_, inl, inr}
+use Prim.Native.Nat.{ℕ, zero, suc, _+_, _-_, _≤_, _<_, max}
+use mathlib.Core.Bool.{Bool}
+use mathlib.Core.List.{List, [], _∷_, _++_}
+use mathlib.Core.Option.{Option, none, some}
+use lib.Dec.{T}
+use lib.ListN.{length, length-append}
+use native.Mathlib.Omega.{arith}
+use Rattle.rules.specs.Sizes.{mostNodes, mostDepth}
+use Rattle.rules.specs.Words.{_∈_, at-head, in-tail}
+use Rattle.rules.specs.Board.{isCell}
+use Rattle.rules.specs.Text.{Bytes, _orElse_}
+use Rattle.rules.specs.Lines.{Header, headerLine, moveLine, dashLine}
+use Rattle.rules.specs.Tree.{Waits, noWaits, wait, Moves, noMoves, move, Wait, Move, Sheet, movesOfWaits, movesOfMoves, waitsOfWaits, waitsOfMoves, everyMove, everyWait, moveCount, waitCount}
+use Rattle.rules.specs.Reading.{Result, refused, got, Spot, readMove, ended, readBody, headed, readSheet}
+use Rattle.rules.specs.Plain.{linesOfWaits, linesOfMoves, linesOf, upFrom, depthOfWaits, depthOfMoves, WellRead}
+use Rattle.rules.specs.declared.Board.{Board}
+use Rattle.rules.proofs.Lists.{in-both}
+use Rattle.rules.proofs.Steps.{not-refused, got-inj}
+use Rattle.rules.proofs.Reading.{BoardSize, header-size, nodesInWaits, nodesInMoves, ReadWaits, ReadMoves, MoveRead, move-read, cell-read}
+
+-- waits have a move
+mutual
+  unfolding ReadWaits waitsOfWaits
+
+  some-in-waits : (ws : Waits) (b : Board) (levels from : ℕ) → ReadWaits ws b levels from → (w : Wait) → w ∈ waitsOfWaits ws → w .moves ≢ noMoves
+  some-in-waits (wait line ms ws) b levels from r w at-head = r .0 .2
+  some-in-waits (wait line ms ws) b levels from r w (in-tail h) =
+      elim (in-both (waitsOfMoves ms) (waitsOfWaits ws) h) [
+        | inl k ↦ some-in-moves ms b (levels - 1) (from + 1) (r .0 .3) w k
+        | inr k ↦ some-in-waits ws b levels (from + 1 + nodesInMoves ms) (r .1) w k
+      ]
+
+  some-in-moves : (ms : Moves) (b : Board) (levels from : ℕ) → ReadMoves ms b levels from → (w : Wait) → w ∈ waitsOfMoves ms → w .moves ≢ noMoves
+  some-in-moves (move line c ws ms) b levels from r w h =
+      elim (in-both (waitsOfWaits ws) (waitsOfMoves ms) h) [
+        | inl k ↦ some-in-waits ws b (levels - 1) (from + 1) (r .0 .3) w k
+        | inr k ↦ some-in-moves ms b levels (from + 1 + nodesInWaits ws) (r .1) w k
+      ]
+
+-- cells are on the board
+mutual
+  unfolding ReadWaits movesOfWaits
+
+  board-in-waits : (ws : Waits) (b : Board) (levels from : ℕ) → ReadWaits ws b levels from → (m : Move) → m ∈ movesOfWaits ws → T (isCell b (m .cell))
+  board-in-waits (wait line ms ws) b levels from r m h =
+      elim (in-both (movesOfMoves ms) (movesOfWaits ws) h) [
+        | inl k ↦ board-in-moves ms b (levels - 1) (from + 1) (r .0 .3) m k
+        | inr k ↦ board-in-waits ws b levels (from + 1 + nodesInMoves ms) (r .1) m k
+      ]
+
+  board-in-moves : (ms : Moves) (b : Board) (levels from : ℕ) → ReadMoves ms b levels from → (m : Move) → m ∈ movesOfMoves ms → T (isCell b (m .cell))
+  board-in-moves (move line c ws ms) b levels from r m at-head = r .0 .2
+  board-in-moves (move line c ws ms) b levels from r m (in-tail h) =
+      elim (in-both (movesOfWaits ws) (movesOfMoves ms) h) [
+        | inl k ↦ board-in-waits ws b (levels - 1) (from + 1) (r .0 .3) m k
+        | inr k ↦ board-in-moves ms b levels (from + 1 + nodesInWaits ws) (r .1) m k
+      ]
+
+-- nodes are moves and waits
+mutual
+  unfolding nodesInWaits movesOfWaits waitsOfWaits
+
+  pub nodes-of-waits : (ws : Waits) → length (movesOfWaits ws) + length (waitsOfWaits ws) ≡ nodesInWaits ws
+  nodes-of-waits noWaits = refl
+  nodes-of-waits (wait line ms ws) =
+      omega (arith, length-append (movesOfMoves ms) (movesOfWaits ws), length-append (waitsOfMoves ms) (waitsOfWaits ws), nodes-of-moves ms, nodes-of-waits ws)
+
+  pub nodes-of-moves : (ms : Moves) → length (movesOfMoves ms) + length (waitsOfMoves ms) ≡ nodesInMoves ms
+  nodes-of-moves noMoves = refl
+  nodes-of-moves (move line c ws ms) =
+      omega (arith, length-append (movesOfWaits ws) (movesOfMoves ms), length-append (waitsOfWaits ws) (waitsOfMoves ms), nodes-of-waits ws, nodes-of-moves ms)
+
+-- no deeper than the levels
+mutual
+  unfolding ReadWaits depthOfWaits
+
+  waits-shallow : (ws : Waits) (b : Board) (levels from : ℕ) → ReadWaits ws b levels from → depthOfWaits ws ≤ levels
+  waits-shallow noWaits b levels from r = omega arith
+  waits-shallow (wait line ms ws) b levels from r =
+      omega (arith, r .0 .1, moves-shallow ms b (levels - 1) (from + 1) (r .0 .3), waits-shallow ws b levels (from + 1 + nodesInMoves ms) (r .1))
+
+  moves-shallow : (ms : Moves) (b : Board) (levels from : ℕ) → ReadMoves ms b levels from → depthOfMoves ms ≤ levels
+  moves-shallow noMoves b levels from r = omega arith
+  moves-shallow (move line c ws ms) b levels from r =
+      omega (arith, r .0 .1, waits-shallow ws b (levels - 1) (from + 1) (r .0 .3), moves-shallow ms b levels (from + 1 + nodesInWaits ws) (r .1))
+
+-- lines in order
+up-both : (i m n : ℕ) → upFrom i (m + n) ≡ upFrom i m ++ upFrom (i + m) n
+unfolding upFrom
+up-both i zero n =
+    let a : zero + n ≡ n = omega arith in
+    let b : i ≡ i + 0 = omega arith in
+    ap (upFrom i) a ∙ ap (λ (k : ℕ). upFrom k n) b
+up-both i (suc m) n =
+    let a : suc m + n ≡ suc (m + n) = omega arith in
+    let b : suc i + m ≡ i + suc m = omega arith in
+    ap (upFrom i) a ∙ ap (λ (l : List ℕ). i ∷ l) (up-both (suc i) m n ∙ ap (λ (k : ℕ). upFrom (suc i) m ++ upFrom k n) b)
+
+-- a node's line, the lines under it, and the lines after it
+up-node : (line from m n : ℕ) (under after : List ℕ) → line ≡ from → under ≡ upFrom (from + 1) m → after ≡ upFrom (from + 1 + m) n
+    → (line ∷ under ++ after) ≡ upFrom from (1 + m + n)
+unfolding upFrom
+up-node line from m n under after e u a =
+    let k : 1 + m + n ≡ suc (m + n) = omega arith in
+    let i : from + 1 ≡ suc from = omega arith in
+    ap₂ _∷_ e (ap₂ _++_ u a ∙ sym (up-both (from + 1) m n) ∙ ap (λ (j : ℕ). upFrom j (m + n)) i) ∙ sym (ap (upFrom from) k)
+
+mutual
+  unfolding ReadWaits linesOfWaits nodesInWaits upFrom
+
+  waits-in-order : (ws : Waits) (b : Board) (levels from : ℕ) → ReadWaits ws b levels from → linesOfWaits ws ≡ upFrom from (nodesInWaits ws)
+  waits-in-order noWaits b levels from r = refl
+  waits-in-order (wait line ms ws) b levels from r =
+      up-node line from (nodesInMoves ms) (nodesInWaits ws) (linesOfMoves ms) (linesOfWaits ws) (r .0 .0)
+      (moves-in-order ms b (levels - 1) (from + 1) (r .0 .3))
+      (waits-in-order ws b levels (from + 1 + nodesInMoves ms) (r .1))
+
+  moves-in-order : (ms : Moves) (b : Board) (levels from : ℕ) → ReadMoves ms b levels from → linesOfMoves ms ≡ upFrom from (nodesInMoves ms)
+  moves-in-order noMoves b levels from r = refl
+  moves-in-order (move line c ws ms) b levels from r =
+      up-node line from (nodesInWaits ws) (nodesInMoves ms) (linesOfWaits ws) (linesOfMoves ms) (r .0 .0)
+      (waits-in-order ws b (levels - 1) (from + 1) (r .0 .3))
+      (moves-in-order ms b levels (from + 1 + nodesInWaits ws) (r .1))
+
+-- of the whole sheet: its root was read from line 2 on
+record RootRead (h : Header) (t : Bytes) (s : Sheet) : Type 0 where
+  same-board : s .board ≡ h .board
+  after : Spot
+  was-read : readMove mostDepth (h .board) (moveLine orElse dashLine) (record { text = t; line = 2; nodes = 0 }) ≡ got (s .root, after)
+
+ended-got : (h : Header) (r : Result (Move × Spot)) (s : Sheet) → ended h r ≡ got s → (s .board ≡ h .board) × (after : Spot) × (r ≡ got (s .root, after))
+unfolding ended
+ended-got h (refused v) s e = absurd (not-refused e)
+ended-got h (got x) s e = by-text (x .1 .text) refl
+  where
+    by-text : (t : Bytes) → x .1 .text ≡ t → (s .board ≡ h .board) × (after : Spot) × (got x ≡ got (s .root, after))
+    by-text [] k =
+        let g = got-inj (rw (k, ended) at e) in
+        (sym (ap (λ (z : Sheet). z .board) g), x .1, ap (λ (z : Sheet). got (z .root, x .1)) g)
+    by-text (c ∷ t) k = absurd (not-refused (rw (k, ended) at e))
+
+headed-got : (o : Option (Header × Bytes)) (s : Sheet) → headed o ≡ got s → (x : Header × Bytes) × (o ≡ some x) × RootRead (x .0) (x .1) s
+unfolding headed readBody
+headed-got none s e = absurd (not-refused e)
+headed-got (some x) s e =
+    let g = ended-got (x .0) _ s e in
+    (x, refl, record { same-board = g .0; after = g .1; was-read = g .2 })
+
+pub well-read : (t : Bytes) (s : Sheet) → readSheet t ≡ got s → WellRead s
+unfolding readSheet everyWait moveCount waitCount everyMove linesOf upFrom BoardSize
+well-read t s e =
+    let g = headed-got (headerLine t) s e in
+    let size = subst⁻¹ BoardSize (g .2 .same-board) (header-size t (g .0) (g .1)) in
+    let m = move-read mostDepth (g .0 .0 .board) (moveLine orElse dashLine) (record { text = g .0 .1; line = 2; nodes = 0 }) (s .root) (g .2 .after) (g .2 .was-read) in
+    let b = g .0 .0 .board in
+    let ws = s .root .waits in
+    let n = m .node-of .2 in
+    let c = cell-read b (n .line-read .0 .place) (n .inside) in
+    let same = g .2 .same-board in
+    let nodes : length (everyMove s) + length (everyWait s) ≡ suc (nodesInWaits ws) = omega (arith, nodes-of-waits ws) in
+    record {
+      columns = size .0;
+      rows = size .1;
+      some-moves = some-in-waits ws b 127 3 (m .waits-of);
+      on-board = subst⁻¹ (λ (z : Board). (k : Move) → k ∈ movesOfWaits ws → T (isCell z (k .cell))) same (board-in-waits ws b 127 3 (m .waits-of));
+      root-on-board =
+          subst⁻¹ (λ (z : Board). (s .root .cell ≡ 0) ⊎ T (isCell z (s .root .cell))) same
+          (subst⁻¹ (λ (z : ℕ). (z ≡ 0) ⊎ T (isCell b z)) (m .node-of .3 ∙ n .its-cell) c);
+      few-nodes = omega (arith, nodes, m .went-of .nodes-went, m .went-of .still-few (omega arith));
+      shallow = omega (arith, waits-shallow ws b 127 3 (m .waits-of));
+      in-order = rw nodes (ap₂ _∷_ (m .line-of) (waits-in-order ws b 127 3 (m .waits-of)));
+    }

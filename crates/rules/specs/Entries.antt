@@ -1,0 +1,177 @@
+-- "Three entries": what judge, play and outcome reply, and what they leave in the lent memory.
+use mathlib.Core.Path.{_≡_}
+use Prim.Native.Nat.{ℕ, zero, suc, _+_}
+use mathlib.Core.Bool.{Bool, true, false, not}
+use mathlib.Core.List.{List, [], _∷_, _++_}
+use mathlib.Core.Option.{Option, none, some}
+use lib.Dec.{ltb}
+use lib.ListN.{length, getD, drop, replicate}
+use Rattle.rules.specs.Sizes.{mostBytes, leastWorkspace, mostOutcomes}
+use Rattle.rules.specs.Words.{if_then_else_, among}
+use Rattle.rules.specs.Text.{Bytes}
+use Rattle.rules.specs.Board.{isCell, listed}
+use Rattle.rules.specs.Joining.{joined}
+use Rattle.rules.specs.Tree.{Sheet, moveCount, waitCount}
+use Rattle.rules.specs.Reading.{Result, refused, got, readSheet}
+use Rattle.rules.specs.Fair.{Fault, firstNotApart, firstNotElusive}
+use Rattle.rules.specs.Outcomes.{outcomes, outcomeCount}
+use Rattle.rules.specs.Answering.{Game, start, isOver, isTaken, answered}
+use Rattle.rules.specs.declared.Board.{Board}
+use Rattle.rules.specs.declared.Player.{Player}
+use Rattle.rules.specs.declared.Played.{Played}
+use Rattle.rules.specs.declared.Named.{Named}
+use Rattle.rules.specs.declared.Verdict.{Verdict}
+use Rattle.rules.specs.declared.Verdict.the-variants.{Accepted, Done, SmallWorkspace, LongText, NotApart, NotElusive, TooManyOutcomes, NotJoined, ShortRoom, AfterOver, NoSuchCell, CellTaken, NoSuchOutcome}
+
+infixl 5 _>>=_
+-- one check after another; a refusal ends them
+unfoldable pub _>>=_ : {X Y : Type 0} → Result X → (X → Result Y) → Result Y
+_>>=_ (refused v) f = refused v
+_>>=_ (got x) f = f x
+
+-- refused with v where the test passes
+unfoldable pub refuseIf : Bool → Verdict → Result (Unit {0})
+refuseIf true v = refused v
+refuseIf false v = got tt
+
+-- refused where there is a fault, with its line and cell
+unfoldable pub refuseFault : (ℕ → ℕ → Verdict) → Option Fault → Result (Unit {0})
+refuseFault v none = got tt
+refuseFault v (some f) = refused (v (f .line) (f .cell))
+
+-- refused at the first outcome that does not join, with its number; the first of these has number n
+unfoldable pub refuseUnjoined : Board → Player → (n : ℕ) → List (List ℕ) → Result (Unit {0})
+refuseUnjoined b p n [] = got tt
+refuseUnjoined b p n (o ∷ os) = elim (joined b p (among o)) [ true ↦ refuseUnjoined b p (n + 1) os | false ↦ refused (NotJoined n) ]
+
+-- order: 1, 2, 3; then the reading's 4 to 9
+unfoldable pub read : (workspace : ℕ) → Bytes → Result Sheet
+read w t = do
+  _ ← refuseIf (ltb w leastWorkspace) SmallWorkspace
+  _ ← refuseIf (ltb mostBytes (length t)) LongText
+  readSheet t
+
+-- then 10, 11, 12, each over the whole tree
+unfoldable pub fair : Sheet → Result Sheet
+fair s = do
+  _ ← refuseFault NotApart (firstNotApart s)
+  _ ← refuseFault NotElusive (firstNotElusive s)
+  _ ← refuseIf (ltb mostOutcomes (outcomeCount s)) TooManyOutcomes
+  got s
+
+-- then 13: a sheet is satisfying when the cells of every outcome of the root join for the named player
+unfoldable pub satisfying : Sheet → Result Sheet
+satisfying s = do
+  _ ← refuseUnjoined (s .board) (s .player) 0 (outcomes s)
+  got s
+
+-- the sheet of a text that judge accepts, or the refusal
+unfoldable pub accepted : (workspace : ℕ) → Bytes → Result Sheet
+accepted w t = do
+  s ← read w t
+  s ← fair s
+  satisfying s
+
+-- Judge takes a sheet and answers a verdict; it also returns the counts of moves, waits and outcomes
+unfoldable pub judged : Result Sheet → Verdict
+judged (refused v) = v
+judged (got s) = Accepted (moveCount s) (waitCount s) (outcomeCount s)
+
+unfoldable pub judge : (workspace : ℕ) → Bytes → Verdict
+judge w t = judged (accepted w t)
+
+-- Play takes a sheet, a list of opponent cell numbers and room for answers. One move: 15, 16, 17, or its answer
+unfoldable pub step : Sheet → Game → ℕ → Result Game
+step s g x = do
+  _ ← refuseIf (isOver s g) AfterOver
+  _ ← refuseIf (not (isCell (s .board) x)) NoSuchCell
+  _ ← refuseIf (isTaken s g x) CellTaken
+  got (answered g x)
+
+-- what a list of moves comes to: refused at a place, or played to a game
+pub data Rounds : Type 0 where
+  stopped : Verdict → (place : ℕ) → Rounds
+  played : Game → Rounds
+
+-- for each move in turn, the first at the given place
+unfoldable pub rounds : Sheet → Game → (place : ℕ) → List ℕ → Rounds
+rounds s g place [] = played g
+rounds s g place (x ∷ xs) = elim (step s g x) [ refused v ↦ stopped v place | got h ↦ rounds s h (place + 1) xs ]
+
+-- play also returns the place of the refused move (from 1, else 0), the answers, and whether play is over; on a refusal no
+-- answers and not over
+pub record PlayReply : Type 0 where
+  pub verdict : Verdict
+  pub place : ℕ
+  pub answers : List ℕ
+  pub over : Bool
+
+unfoldable pub refusedPlay : Verdict → (place : ℕ) → PlayReply
+refusedPlay v place = record { verdict = v; place = place; answers = []; over = false }
+
+unfoldable pub playedOut : Sheet → Rounds → PlayReply
+playedOut s (stopped v place) = refusedPlay v place
+playedOut s (played g) = record { verdict = Done; place = 0; answers = g .answers; over = isOver s g }
+
+unfoldable pub playOn : List ℕ → Result Sheet → PlayReply
+playOn xs (refused v) = refusedPlay v 0
+playOn xs (got s) = playedOut s (rounds s (start s) 1 xs)
+
+-- play goes on with 14 (room shorter than the move list), then for each move in turn 15, 16, 17
+unfoldable pub play : (workspace : ℕ) → Bytes → (moves : List ℕ) → (room : ℕ) → PlayReply
+play w t xs room = playOn xs do
+  s ← accepted w t
+  _ ← refuseIf (ltb room (length xs)) ShortRoom
+  got s
+
+-- Outcome takes a sheet, an outcome's number and room for its cells, listed in ascending order
+unfoldable pub outcomeCells : Sheet → ℕ → List ℕ
+outcomeCells s i = listed (s .board) (among (getD (outcomes s) i []))
+
+pub record OutcomeReply : Type 0 where
+  pub verdict : Verdict
+  pub cells : List ℕ
+
+-- outcome also returns the number of cells, 0 on a refusal
+unfoldable pub named : Result (List ℕ) → OutcomeReply
+named (refused v) = record { verdict = v; cells = [] }
+named (got xs) = record { verdict = Done; cells = xs }
+
+-- outcome does not give 13; it goes on with 18, then 14 (room shorter than the cells)
+unfoldable pub outcome : (workspace : ℕ) → Bytes → (number room : ℕ) → OutcomeReply
+outcome w t i room = named do
+  s ← read w t
+  s ← fair s
+  _ ← refuseIf (not (ltb i (outcomeCount s))) NoSuchOutcome
+  _ ← refuseIf (ltb room (length (outcomeCells s i))) ShortRoom
+  got (outcomeCells s i)
+
+-- on refusal 1 the workspace is unchanged; otherwise its first 8,192 numbers are 0 on return and the rest unchanged
+unfoldable pub workspaceAfter : List ℕ → List ℕ
+workspaceAfter ws = if ltb (length ws) leastWorkspace then ws else replicate leastWorkspace 0 ++ drop leastWorkspace ws
+
+-- the room changes only on 0, and only in as many first places as there are answers or cells. (A refusal lists none.)
+unfoldable pub roomAfter : (answers room : List ℕ) → List ℕ
+roomAfter xs room = xs ++ drop (length xs) room
+
+-- what play and outcome hand back beside the room: the number of answers, or of cells
+unfoldable pub playShown : PlayReply → Played
+playShown r = record { verdict = r .verdict; place = r .place; answers = length (r .answers); over = r .over }
+
+unfoldable pub outcomeShown : OutcomeReply → Named
+outcomeShown r = record { verdict = r .verdict; cells = length (r .cells) }
+
+-- What each entry promises, for every input: its full reply, and the later contents of all memory lent to it
+pub record JudgeKept (workspace : List ℕ) (t : Bytes) (v : Verdict) (workspace-later : List ℕ) : Type 0 where
+  pub reply : v ≡ judge (length workspace) t
+  pub memory : workspace-later ≡ workspaceAfter workspace
+
+pub record PlayKept (workspace : List ℕ) (t : Bytes) (moves room : List ℕ) (r : Played) (workspace-later room-later : List ℕ) : Type 0 where
+  pub reply : r ≡ playShown (play (length workspace) t moves (length room))
+  pub memory : workspace-later ≡ workspaceAfter workspace
+  pub answers : room-later ≡ roomAfter (play (length workspace) t moves (length room) .answers) room
+
+pub record OutcomeKept (workspace : List ℕ) (t : Bytes) (number : ℕ) (room : List ℕ) (r : Named) (workspace-later room-later : List ℕ) : Type 0 where
+  pub reply : r ≡ outcomeShown (outcome (length workspace) t number (length room))
+  pub memory : workspace-later ≡ workspaceAfter workspace
+  pub cells : room-later ≡ roomAfter (outcome (length workspace) t number (length room) .cells) room

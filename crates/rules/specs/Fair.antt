@@ -1,0 +1,64 @@
+-- "Fair sheets": the cells of a node, apart and elusive, each with its first faulty node and that node's smallest faulty cell.
+use Prim.Native.Nat.{ℕ, zero, suc, _+_}
+use mathlib.Core.Bool.{Bool, true, false, _&&_, _||_}
+use mathlib.Core.List.{List, [], _∷_}
+use mathlib.Core.Option.{Option, none, some}
+use lib.Dec.{eqb, leb}
+use Rattle.rules.specs.Words.{oneIf}
+use Rattle.rules.specs.Board.{smallest}
+use Rattle.rules.specs.Tree.{Waits, noWaits, wait, Moves, noMoves, move, Wait, Move, Sheet, everyMove, everyWait}
+use Rattle.rules.specs.declared.Board.{Board}
+
+-- the cells of a node are all cells named at it or under it: x is one of some of these waits, or of some of these moves
+unfoldable mutual
+  pub inWaits : Waits → ℕ → Bool
+  inWaits noWaits x = false
+  inWaits (wait line ms ws) x = inMoves ms x || inWaits ws x
+
+  pub inMoves : Moves → ℕ → Bool
+  inMoves noMoves x = false
+  inMoves (move line c ws ms) x = (eqb x c || inWaits ws x) || inMoves ms x
+
+-- x is one of the cells of a move with its own cell c
+unfoldable pub inMove : (c : ℕ) → Waits → ℕ → Bool
+inMove c ws x = eqb x c || inWaits ws x
+
+-- in how many of the waits x is found
+unfoldable pub holding : Waits → ℕ → ℕ
+holding noWaits x = 0
+holding (wait line ms ws) x = oneIf (inMoves ms x) + holding ws x
+
+-- x is found in every one of the moves
+unfoldable pub inEvery : Moves → ℕ → Bool
+inEvery noMoves x = true
+inEvery (move line c ws ms) x = inMove c ws x && inEvery ms x
+
+-- Apart. At a move, a cell is faulty if it is the move's own and is found under it, or if it is found in two or more of its waits
+unfoldable pub notApart : Move → ℕ → Bool
+notApart m x = (eqb x (m .cell) && inWaits (m .waits) x) || leb 2 (holding (m .waits) x)
+
+-- Elusive. At a wait, a cell is faulty if it is found in every one of its moves
+unfoldable pub notElusive : Wait → ℕ → Bool
+notElusive w x = inEvery (w .moves) x
+
+-- a faulty node: its line, and its smallest faulty cell
+pub record Fault : Type 0 where
+  pub line : ℕ
+  pub cell : ℕ
+
+-- the fault of the node at a line whose smallest faulty cell is c; none where c is no cell
+unfoldable pub faultAt : (line c : ℕ) → Option Fault
+faultAt line zero = none
+faultAt line (suc c) = some (record { line = line; cell = suc c })
+
+-- the fault of the first faulty node of a list, whose cells are faulty by the test
+unfoldable pub firstFault : {N : Type 0} → Board → (line : N → ℕ) → (faulty : N → ℕ → Bool) → List N → Option Fault
+firstFault b line faulty [] = none
+firstFault b line faulty (n ∷ ns) =
+    elim (faultAt (line n) (smallest b (faulty n))) [ some f ↦ some f | none ↦ firstFault b line faulty ns ]
+
+unfoldable pub firstNotApart : Sheet → Option Fault
+firstNotApart s = firstFault (s .board) (λ m. m .line) notApart (everyMove s)
+
+unfoldable pub firstNotElusive : Sheet → Option Fault
+firstNotElusive s = firstFault (s .board) (λ w. w .line) notElusive (everyWait s)

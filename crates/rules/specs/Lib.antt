@@ -1,0 +1,17 @@
+pub mod Sizes
+pub mod Words
+pub mod Board
+pub mod Joining
+pub mod Text
+pub mod Lines
+pub mod Tree
+pub mod Verdict
+pub mod Reading
+pub mod Fair
+pub mod Outcomes
+pub mod Answering
+pub mod Entries
+pub mod Plain
+pub mod Promise
+pub mod Samples
+pub mod Computed

@@ -1,0 +1,88 @@
+-- "The sheet": line 1, and the lines of moves and waits.
+use Prim.Native.Nat.{ℕ, zero, suc, _+_, _-_}
+use mathlib.Core.Bool.{Bool, true, false, _&&_}
+use mathlib.Core.List.{List, [], _∷_}
+use mathlib.Core.Option.{Option, none, some}
+use lib.Dec.{leb}
+use Rattle.rules.specs.Sizes.{largest, highestRow, mostUnder}
+use Rattle.rules.specs.Text.{Bytes, Reader, _>>=_, _>>_, _orElse_, give, guard, anyByte, word, tab, lineFeed, numberIn}
+use Rattle.rules.specs.declared.Board.{Board}
+use Rattle.rules.specs.declared.Player.{Player}
+use Rattle.rules.specs.declared.Player.the-variants.{D, A}
+
+-- what line 1 says
+pub record Header : Type 0 where
+  pub board : Board
+  pub player : Player
+
+-- a cell as it is written: its column and its row
+pub record Place : Type 0 where
+  pub column : ℕ
+  pub row : ℕ
+
+-- what a node line says: its cell, if it names one, and the number of nodes right under it
+pub record Line : Type 0 where
+  pub place : Option Place
+  pub under : ℕ
+
+-- `D` or `A`
+unfoldable pub player : Reader Player
+player = (word "D" >> give D) orElse (word "A" >> give A)
+
+-- line 1: `hex`, columns, rows, `D` or `A`
+unfoldable pub headerLine : Reader Header
+headerLine = do
+  word "hex"
+  tab
+  c ← numberIn 1 largest
+  tab
+  r ← numberIn 1 largest
+  tab
+  p ← player
+  lineFeed
+  give (record { board = record { columns = c; rows = r }; player = p })
+
+-- the column of a lower-case letter
+unfoldable pub letter : Reader ℕ
+letter = do
+  b ← anyByte
+  guard (leb 97 b && leb b 122)
+  give (b - 96)
+
+-- a cell is a lower-case letter and a number 1 to 99
+unfoldable pub place : Reader Place
+place = do
+  c ← letter
+  r ← numberIn 1 highestRow
+  give (record { column = c; row = r })
+
+-- a move: `m`, cell, number of waits under it (0 to 2047)
+unfoldable pub moveLine : Reader Line
+moveLine = do
+  word "m"
+  tab
+  p ← place
+  tab
+  n ← numberIn 0 mostUnder
+  lineFeed
+  give (record { place = some p; under = n })
+
+-- only the first node may have `-` instead
+unfoldable pub dashLine : Reader Line
+dashLine = do
+  word "m"
+  tab
+  word "-"
+  tab
+  n ← numberIn 0 mostUnder
+  lineFeed
+  give (record { place = none; under = n })
+
+-- a wait: `w`, number of moves under it (1 to 2047)
+unfoldable pub waitLine : Reader Line
+waitLine = do
+  word "w"
+  tab
+  n ← numberIn 1 mostUnder
+  lineFeed
+  give (record { place = none; under = n })

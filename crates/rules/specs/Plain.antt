@@ -1,0 +1,124 @@
+-- Plain statements about sheets, which the theorems in proofs/ show to be what the computed definitions say.
+use mathlib.Core.Path.{_≡_}
+use mathlib.Core.Logic.{_≢_, _⊎_}
+use Prim.Native.Nat.{ℕ, zero, suc, _+_, _≤_, _<_, max}
+use mathlib.Core.Bool.{Bool}
+use mathlib.Core.List.{List, [], _∷_, _++_}
+use lib.Dec.{T}
+use lib.ListN.{length, getD}
+use Rattle.rules.specs.Sizes.{largest, mostNodes, mostDepth, mostBytes, leastWorkspace, mostOutcomes}
+use Rattle.rules.specs.Words.{_∈_, among}
+use Rattle.rules.specs.Board.{isCell}
+use Rattle.rules.specs.Text.{Bytes}
+use Rattle.rules.specs.Tree.{Waits, noWaits, wait, Moves, noMoves, move, Wait, Move, Sheet, movesOfWaits, everyMove, everyWait, moveCount, waitCount}
+use Rattle.rules.specs.Reading.{refused, got, readSheet}
+use Rattle.rules.specs.Fair.{Fault, inWaits, holding, inEvery, notApart, notElusive}
+use Rattle.rules.specs.Outcomes.{outcomes, outcomeCount}
+use Rattle.rules.specs.Joining.{Joins}
+use Rattle.rules.specs.declared.Board.{Board}
+use Rattle.rules.specs.declared.Verdict.{Verdict}
+use Rattle.rules.specs.declared.Verdict.the-variants.{Accepted, SmallWorkspace, LongText, NotApart, NotElusive, TooManyOutcomes, NotJoined}
+
+-- the numbers of the lines of nodes, in preorder
+unfoldable mutual
+  pub linesOfWaits : Waits → List ℕ
+  linesOfWaits noWaits = []
+  linesOfWaits (wait line ms ws) = line ∷ linesOfMoves ms ++ linesOfWaits ws
+
+  pub linesOfMoves : Moves → List ℕ
+  linesOfMoves noMoves = []
+  linesOfMoves (move line c ws ms) = line ∷ linesOfWaits ws ++ linesOfMoves ms
+
+unfoldable pub linesOf : Sheet → List ℕ
+linesOf s = s .root .line ∷ linesOfWaits (s .root .waits)
+
+-- n numbers one after another, the first is i
+unfoldable pub upFrom : (i n : ℕ) → List ℕ
+upFrom i zero = []
+upFrom i (suc n) = i ∷ upFrom (suc i) n
+
+-- the depth of a forest, whose own nodes have depth 1
+unfoldable mutual
+  pub depthOfWaits : Waits → ℕ
+  depthOfWaits noWaits = 0
+  depthOfWaits (wait line ms ws) = max (suc (depthOfMoves ms)) (depthOfWaits ws)
+
+  pub depthOfMoves : Moves → ℕ
+  depthOfMoves noMoves = 0
+  depthOfMoves (move line c ws ms) = max (suc (depthOfWaits ws)) (depthOfMoves ms)
+
+-- What a text that reads is: a board of 1 to 13 columns and rows, waits with at least one move, cells on the board, `-` at the
+-- root only, at most 2,048 nodes, at most depth 128, and nodes on the lines 2, 3 and so on
+pub record WellRead (s : Sheet) : Type 0 where
+  pub columns : (1 ≤ s .board .columns) × (s .board .columns ≤ largest)
+  pub rows : (1 ≤ s .board .rows) × (s .board .rows ≤ largest)
+  pub some-moves : (w : Wait) → w ∈ everyWait s → w .moves ≢ noMoves
+  pub on-board : (m : Move) → m ∈ movesOfWaits (s .root .waits) → T (isCell (s .board) (m .cell))
+  pub root-on-board : (s .root .cell ≡ 0) ⊎ T (isCell (s .board) (s .root .cell))
+  pub few-nodes : moveCount s + waitCount s ≤ mostNodes
+  pub shallow : suc (depthOfWaits (s .root .waits)) ≤ mostDepth
+  pub in-order : linesOf s ≡ upFrom 2 (moveCount s + waitCount s)
+
+-- Apart: no cell of the board is the move's own and found under it, nor found in two or more of its waits
+pub record IsApart (b : Board) (m : Move) : Type 0 where
+  pub own-not-under : T (isCell b (m .cell)) → T (inWaits (m .waits) (m .cell)) → ⊥
+  pub in-one-wait : (x : ℕ) → T (isCell b x) → holding (m .waits) x ≤ 1
+
+-- Elusive: no cell of the board is found in every one of the wait's moves
+pub record IsElusive (b : Board) (w : Wait) : Type 0 where
+  pub no-cell-in-all : (x : ℕ) → T (isCell b x) → T (inEvery (w .moves) x) → ⊥
+
+abbrev pub AllApart : Sheet → Type 0
+AllApart s = (m : Move) → m ∈ everyMove s → IsApart (s .board) m
+
+abbrev pub AllElusive : Sheet → Type 0
+AllElusive s = (w : Wait) → w ∈ everyWait s → IsElusive (s .board) w
+
+abbrev pub AllJoin : Sheet → Type 0
+AllJoin s = (o : List ℕ) → o ∈ outcomes s → Joins (s .board) (s .player) (among o)
+
+-- the text and the workspace are within the sizes
+pub record WithinSizes (workspace : ℕ) (t : Bytes) : Type 0 where
+  pub enough : leastWorkspace ≤ workspace
+  pub short : length t ≤ mostBytes
+
+-- A sheet by document 01, with a workspace as it names it
+pub record IsSheet (workspace : ℕ) (t : Bytes) (s : Sheet) : Type 0 where
+  pub sizes : WithinSizes workspace t
+  pub reads : readSheet t ≡ got s
+  pub apart : AllApart s
+  pub elusive : AllElusive s
+  pub few : outcomeCount s ≤ mostOutcomes
+  pub satisfying : AllJoin s
+
+-- A fault is the first faulty node's, with its smallest faulty cell
+pub record IsFirst {N : Type 0} (b : Board) (line : N → ℕ) (faulty : N → ℕ → Bool) (ns : List N) (f : Fault) : Type 0 where
+  pub before : List N
+  pub node : N
+  pub after : List N
+  pub stands : ns ≡ before ++ node ∷ after
+  pub its-line : f .line ≡ line node
+  pub its-cell : T (isCell b (f .cell)) × T (faulty node (f .cell))
+  pub smallest-cell : (x : ℕ) → T (isCell b x) → T (faulty node x) → f .cell ≤ x
+  pub none-before : (n : N) → n ∈ before → (x : ℕ) → T (isCell b x) → T (faulty n x) → ⊥
+
+-- An outcome's number is the smallest of those that do not join
+pub record IsFirstUnjoined (s : Sheet) (i : ℕ) : Type 0 where
+  pub is-number : i < outcomeCount s
+  pub not-joined : Joins (s .board) (s .player) (among (getD (outcomes s) i [])) → ⊥
+  pub joined-before : (j : ℕ) → j < i → Joins (s .board) (s .player) (among (getD (outcomes s) j []))
+
+-- The table's "given exactly when" for judge, a case for each kind of reply
+pub data Given (workspace : ℕ) (t : Bytes) : Verdict → Type 0 where
+  as-accepted : (s : Sheet) → IsSheet workspace t s → Given workspace t (Accepted (moveCount s) (waitCount s) (outcomeCount s))
+  as-small : workspace < leastWorkspace → Given workspace t SmallWorkspace
+  as-long : leastWorkspace ≤ workspace → mostBytes < length t → Given workspace t LongText
+  as-unread : (v : Verdict) → WithinSizes workspace t → readSheet t ≡ refused v → Given workspace t v
+  as-not-apart : (s : Sheet) (f : Fault) → WithinSizes workspace t → readSheet t ≡ got s → IsFirst (s .board) (λ m. m .line) notApart (everyMove s) f
+      → Given workspace t (NotApart (f .line) (f .cell))
+  as-not-elusive : (s : Sheet) (f : Fault) → WithinSizes workspace t → readSheet t ≡ got s → AllApart s
+      → IsFirst (s .board) (λ w. w .line) notElusive (everyWait s) f → Given workspace t (NotElusive (f .line) (f .cell))
+  as-too-many : (s : Sheet) → WithinSizes workspace t → readSheet t ≡ got s → AllApart s → AllElusive s → mostOutcomes < outcomeCount s
+      → Given workspace t TooManyOutcomes
+  as-not-joined : (s : Sheet) (i : ℕ) → WithinSizes workspace t → readSheet t ≡ got s → AllApart s → AllElusive s → outcomeCount s ≤ mostOutcomes
+      → IsFirstUnjoined s i → Given workspace t (NotJoined i)

@@ -1,0 +1,138 @@
+-- "The sheet" and "Three entries", 3 to 9: the header, then the nodes in preorder. The first line with a fault decides.
+use Prim.Native.Nat.{ℕ, zero, suc, _+_}
+use mathlib.Core.Bool.{Bool, true, false}
+use mathlib.Core.List.{List, [], _∷_}
+use mathlib.Core.Option.{Option, none, some}
+use lib.Dec.{eqb}
+use Rattle.rules.specs.Sizes.{mostNodes, mostDepth}
+use Rattle.rules.specs.Words.{if_then_else_}
+use Rattle.rules.specs.Board.{onBoard, cellAt}
+use Rattle.rules.specs.Text.{Bytes, Reader, _orElse_}
+use Rattle.rules.specs.Lines.{Line, Place, Header, headerLine, moveLine, dashLine, waitLine}
+use Rattle.rules.specs.Tree.{Wait, Move, Waits, noWaits, Moves, noMoves, asWaits, asMoves, Sheet}
+use Rattle.rules.specs.declared.Board.{Board}
+use Rattle.rules.specs.declared.Verdict.{Verdict}
+use Rattle.rules.specs.declared.Verdict.the-variants.{BadHeader, BadLine, OffBoard, TooManyNodes, TooDeep, Unfinished, TextAfter}
+
+-- a refusal, or what was got
+pub data Result (X : Type 0) : Type 0 where
+  refused : Verdict → Result X
+  got : X → Result X
+
+-- where the reading stands: the text that is left, the number of the line that it begins with, the nodes read so far
+pub record Spot : Type 0 where
+  pub text : Bytes
+  pub line : ℕ
+  pub nodes : ℕ
+
+abbrev pub Reading : Type 0 → Type 0
+Reading X = Spot → Result (X × Spot)
+
+infixl 5 _>>=_
+-- one reading after another; a refusal ends it
+unfoldable pub go : {X Y : Type 0} → Result (X × Spot) → (X → Reading Y) → Result (Y × Spot)
+go (refused v) f = refused v
+go (got x) f = f (x .0) (x .1)
+
+abbrev pub _>>=_ : {X Y : Type 0} → Reading X → (X → Reading Y) → Reading Y
+_>>=_ r f = λ s. go (r s) f
+
+unfoldable pub give : {X : Type 0} → X → Reading X
+give x s = got (x, s)
+
+-- the cell that a line names, if any, is on the board
+unfoldable pub within : Board → Option Place → Bool
+within b none = true
+within b (some p) = onBoard b (p .column) (p .row)
+
+-- its number; 0 where the line names none
+unfoldable pub cellOf : Board → Option Place → ℕ
+cellOf b none = 0
+cellOf b (some p) = cellAt b (p .column) (p .row)
+
+-- a node as its line has it: the line's number, its cell's number, the number of nodes right under it
+pub record Node : Type 0 where
+  pub line : ℕ
+  pub cell : ℕ
+  pub under : ℕ
+
+-- 5: a cell off the board
+unfoldable pub placed : Board → Spot → Line × Bytes → Result (Node × Spot)
+placed b s x =
+    if within b (x .0 .place)
+    then
+    got (
+      record { line = s .line; cell = cellOf b (x .0 .place); under = x .0 .under },
+      record { text = x .1; line = s .line + 1; nodes = s .nodes + 1 },
+    )
+    else refused (OffBoard (s .line))
+
+-- 7: a node at depth 129, where no level is left
+unfoldable pub atDepth : Board → (levels : ℕ) → Spot → Line × Bytes → Result (Node × Spot)
+atDepth b zero s x = refused (TooDeep (s .line))
+atDepth b (suc levels) s x = placed b s x
+
+-- 4: a node line malformed, of the wrong kind, or without its line feed
+unfoldable pub wellFormed : Board → (levels : ℕ) → Spot → Option (Line × Bytes) → Result (Node × Spot)
+wellFormed b levels s none = refused (BadLine (s .line))
+wellFormed b levels s (some x) = atDepth b levels s x
+
+-- 6: a 2,049th node line begins while the tree is unfinished
+unfoldable pub counted : Board → Reader Line → (levels : ℕ) → Spot → Result (Node × Spot)
+counted b r levels s =
+    if eqb (s .nodes) mostNodes then refused (TooManyNodes (s .line)) else wellFormed b levels s (r (s .text))
+
+-- 8: the text ends and the tree is unfinished. So the next node's line, which r reads, has the order 8, 6, 4, 7, 5
+unfoldable pub nodeLine : Board → Reader Line → (levels : ℕ) → Reading Node
+nodeLine b r levels s = elim (s .text) [ [] ↦ refused (Unfinished (s .line)) | _∷_ _ _ ↦ counted b r levels s ]
+
+-- n of a kind one after another
+unfoldable pub inTurn : {X : Type 0} → ℕ → Reading X → Reading (List X)
+inTurn zero one = give []
+inTurn (suc n) one = do
+  x ← one
+  xs ← inTurn n one
+  give (x ∷ xs)
+
+-- a move whose line r reads, or a wait, with all that is under it, where so many levels are left, its own among them.
+-- (Where none is left the line is refused, and nothing is given.)
+unfoldable mutual
+  pub readMove : (levels : ℕ) → Board → Reader Line → Reading Move
+  readMove zero b r = do
+    n ← nodeLine b r zero
+    give (record { line = n .line; cell = n .cell; waits = noWaits })
+  readMove (suc levels) b r = do
+    n ← nodeLine b r (suc levels)
+    ws ← inTurn (n .under) (readWait levels b)
+    give (record { line = n .line; cell = n .cell; waits = asWaits ws })
+
+  pub readWait : (levels : ℕ) → Board → Reading Wait
+  readWait zero b = do
+    n ← nodeLine b waitLine zero
+    give (record { line = n .line; moves = noMoves })
+  readWait (suc levels) b = do
+    n ← nodeLine b waitLine (suc levels)
+    ms ← inTurn (n .under) (readMove levels b moveLine)
+    give (record { line = n .line; moves = asMoves ms })
+
+-- 9: text remains after the tree
+unfoldable pub ended : Header → Result (Move × Spot) → Result Sheet
+ended h (refused v) = refused v
+ended h (got x) =
+    elim (x .1 .text) [
+      | [] ↦ got (record { board = h .board; player = h .player; root = x .0 })
+      | _∷_ _ _ ↦ refused (TextAfter (x .1 .line))
+    ]
+
+-- the body after the header line is read as a text that begins where the header ended; its first node is a move
+unfoldable pub readBody : Header → Bytes → Result Sheet
+readBody h t = ended h (readMove mostDepth (h .board) (moveLine orElse dashLine) (record { text = t; line = 2; nodes = 0 }))
+
+-- 3: line 1 not a header
+unfoldable pub headed : Option (Header × Bytes) → Result Sheet
+headed none = refused BadHeader
+headed (some x) = readBody (x .0) (x .1)
+
+-- a sheet's text
+unfoldable pub readSheet : Bytes → Result Sheet
+readSheet t = headed (headerLine t)

@@ -1,0 +1,44 @@
+-- Small words that every definition is written with: a choice by a test, and lists.
+use Prim.Native.Nat.{ℕ, zero, suc}
+use mathlib.Core.Bool.{Bool, true, false, _||_}
+use mathlib.Core.List.{List, [], _∷_, _++_}
+use lib.Dec.{eqb}
+
+infix 5 if_then_else_
+infix 20 _∈_
+abbrev pub if_then_else_ : {A : Type 0} → Bool → A → A → A
+if true then a else b = a
+if false then a else b = b
+
+-- x is in the list: as a statement, and for numbers as a test
+pub data _∈_ {A : Type 0} (x : A) : List A → Type 0 where
+  at-head : {xs : List A} → x ∈ (x ∷ xs)
+  in-tail : {y : A} {xs : List A} → x ∈ xs → x ∈ (y ∷ xs)
+
+unfoldable pub among : List ℕ → ℕ → Bool
+among [] x = false
+among (y ∷ ys) x = eqb x y || among ys x
+
+-- those that pass the test, in their order
+unfoldable pub keep : {A : Type 0} → (A → Bool) → List A → List A
+keep p [] = []
+keep p (x ∷ xs) = if p x then x ∷ keep p xs else keep p xs
+
+-- some one passes the test
+unfoldable pub any : {A : Type 0} → (A → Bool) → List A → Bool
+any p [] = false
+any p (x ∷ xs) = p x || any p xs
+
+-- the numbers 1 to n
+unfoldable pub upTo : ℕ → List ℕ
+upTo zero = []
+upTo (suc n) = upTo n ++ suc n ∷ []
+
+-- the first of a list of cells; 0 where it has none
+unfoldable pub firstOrNone : List ℕ → ℕ
+firstOrNone [] = 0
+firstOrNone (x ∷ xs) = x
+
+unfoldable pub oneIf : Bool → ℕ
+oneIf true = 1
+oneIf false = 0
