@@ -1,10 +1,12 @@
--- Tests as statements: the connectives, a choice by a test, and a test as a number.
+-- Tests as statements: the connectives, a choice by a test, and a test as a number. (The sample tables are named here so that
+-- they are computed before anything is proved from the definitions.)
 use mathlib.Core.Path.{_≡_, refl, subst⁻¹}
 use mathlib.Core.Bool.{Bool, true, false, not, cond, _&&_, _||_}
 use mathlib.Core.Logic.{_⊎_, inl, inr}
 use Prim.Native.Nat.{ℕ}
 use lib.Dec.{T}
 use Rattle.rules.specs.Words.{oneIf}
+use Rattle.rules.specs.Computed.{samples}
 
 pub holds-of : {b : Bool} → b ≡ true → T b
 holds-of e = subst⁻¹ T e tt
