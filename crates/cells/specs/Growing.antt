@@ -1,0 +1,51 @@
+-- How the joining test grows the reached set of places, row by row, until it stops.
+use mathlib.Core.List.{List, [], _∷_}
+use Prim.Native.Nat.{ℕ, zero, suc, _+_, _-_, _*_, _/_, _%_, _^_, _<_, _≤_}
+use lib.Bits.{bitAnd, bitOr}
+use lib.ListN.{getD}
+use Rattle.cells.specs.Rows.{In, fill}
+
+-- the places in a row that touch one of the row h itself, of the row u above or of the row d below
+unfoldable pub around : ℕ → ℕ → ℕ → ℕ
+around u h d = bitOr (bitOr (h * 2 % 2 ^ 32) (h / 2)) (bitOr (bitOr u (u / 2)) (bitOr d (d * 2 % 2 ^ 32)))
+
+-- a row h with those of the row's cells s that touch it, or the rows above and below
+unfoldable pub grownRow : ℕ → ℕ → ℕ → ℕ → ℕ
+unfolding around
+grownRow s u h d = bitOr h (bitAnd s (around u h d))
+
+abbrev pub newRow : List ℕ → List ℕ → ℕ → ℕ
+newRow s a zero = getD a 0 0
+newRow s a (suc k) = grownRow (getD s (suc k) 0) (getD a k 0) (getD a (suc k) 0) (getD a (suc (suc k)) 0)
+
+-- the rows a with their neighbours among the cells s
+abbrev pub grown : List ℕ → List ℕ → List ℕ
+grown s a = fill (newRow s a) 20 a
+
+-- the six neighbours of a place (column, row), the second place
+pub data Near : ℕ → ℕ → ℕ → ℕ → Type 0 where
+  to-left : {c r : ℕ} → Near (suc c) r c r
+  to-right : {c r : ℕ} → Near c r (suc c) r
+  to-up : {c r : ℕ} → Near c (suc r) c r
+  to-down : {c r : ℕ} → Near c r c (suc r)
+  to-up-right : {c r : ℕ} → Near c (suc r) (suc c) r
+  to-down-left : {c r : ℕ} → Near (suc c) r c (suc r)
+
+-- what a set grows to, inside s: its own places, and step by step their neighbours in s
+pub data Linked (s a : List ℕ) : ℕ → ℕ → Type 0 where
+  own : {c r : ℕ} → In a c r → Linked s a c r
+  next : {c r c′ r′ : ℕ} → Linked s a c r → Near c r c′ r′ → In s c′ r′ → Linked s a c′ r′
+
+-- no place of s is in row 0, row 20 or beyond, nor above digit 31
+pub record Framed (s : List ℕ) : Type 0 where
+  pub inside : (c r : ℕ) → In s c r → (1 ≤ r) × (r ≤ 19) × (c < 32)
+
+-- r is all that a grows to inside s
+pub record Closure (s a r : List ℕ) : Type 0 where
+  pub sound : (c k : ℕ) → In r c k → Linked s a c k
+  pub whole : (c k : ℕ) → Linked s a c k → In r c k
+
+-- what each row lacks of 2 ^ 32, summed: it falls as the rows grow
+unfoldable pub room : List ℕ → ℕ
+room [] = 0
+room (x ∷ l) = 2 ^ 32 - x + room l

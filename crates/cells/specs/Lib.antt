@@ -1,0 +1,4 @@
+-- What the contracts of `cells` cite.
+pub mod Cells
+pub mod Growing
+pub mod Rows

@@ -1,0 +1,8 @@
+pub mod Limited
+pub mod Trees
+pub mod Table
+pub mod Walk
+pub mod Weighing
+pub mod Collecting
+pub mod Order
+pub mod Beside

@@ -1,0 +1,6 @@
+pub mod Nodes
+pub mod Table
+pub mod Weighing
+pub mod Collecting
+pub mod Order
+pub mod Sheets
