@@ -1,12 +1,12 @@
 -- Nodes beside nodes: for a loop that makes one node after another, as the reading does.
-use mathlib.Core.Path.{_≡_, refl, ap, subst, _∙_}
+use mathlib.Core.Path.{_≡_, refl, ap, subst}
 use Prim.Native.Nat.{ℕ, suc, _+_}
 use native.Mathlib.Omega.{arith}
 use mathlib.Core.List.{List, [], _∷_, _++_}
 use lib.ListN.{length}
 use Rattle.rules.specs.Tree.{Wait, Move, asWaits, asMoves}
 use Rattle.nodes.specs.Nodes.{Nodes, noNodes, node, Kind, nodesOfWaits, nodesOfMoves, many, size}
-use Rattle.nodes.specs.Table.{Property, Each, nothing, first}
+use Rattle.nodes.specs.Table.{Property, Each, first}
 
 unfoldable pub beside : Nodes → Nodes → Nodes
 beside noNodes m = m

@@ -1,7 +1,7 @@
 -- The loop over the nodes under a node that collects their cells, and a move's stone.
 use mathlib.Core.Path.{_≡_, refl, sym, ap, _∙_}
 use mathlib.Core.Logic.{⊎-elim}
-use mathlib.Core.Bool.{Bool, true, false, _||_, or-assoc, or-false}
+use mathlib.Core.Bool.{Bool, false, _||_, or-assoc, or-false}
 use Prim.Native.Nat.{ℕ, zero, suc, _+_, _<_, _≤_}
 use native.Mathlib.Nat.{eq-zero-or-pos}
 use native.Mathlib.Omega.{arith}
@@ -14,9 +14,9 @@ use Rattle.rules.specs.Tree.{stone}
 use Rattle.rules.specs.Words.{among}
 use Rattle.rules.proofs.Tests.{both}
 use Rattle.cells.specs.Cells.{held}
-use Rattle.nodes.specs.Nodes.{Nodes, noNodes, node, Kind, other, named, inNodes, inNode}
+use Rattle.nodes.specs.Nodes.{Nodes, node, Kind, other, named, inNodes, inNode}
 use Rattle.nodes.specs.Table.{underIn, RowOn, SomeNode}
-use Rattle.nodes.specs.Collecting.{Collects, CollectsAny}
+use Rattle.nodes.specs.Collecting.{CollectsAny}
 use Rattle.nodes.proofs.Walk.{Walking, walking-starts, walking-again, walking-ends}
 
 -- the cells so far and those of what is left are all the cells, besides those at the start

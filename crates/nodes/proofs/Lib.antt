@@ -1,3 +1,4 @@
+-- The laws of the node table that belong to no one function.
 pub mod Limited
 pub mod Trees
 pub mod Table

@@ -1,7 +1,7 @@
 -- Laws of counts that are kept at the limit: of a sum and of a product it does not matter where the limit is applied.
-use mathlib.Core.Path.{_≡_, refl, sym, ap, _∙_}
+use mathlib.Core.Path.{_≡_, sym, ap, _∙_}
 use mathlib.Core.Logic.{⊎-elim}
-use Prim.Native.Nat.{ℕ, zero, suc, _+_, _*_, _-_, _^_, _<_, _≤_}
+use Prim.Native.Nat.{ℕ, zero, suc, _*_, _-_, _^_, _<_, _≤_}
 use native.Mathlib.Nat.{mul-le-mul, min-eq-left, mul-zero, mul-one, one-mul, mul-assoc, mul-comm, eq-zero-or-pos, le-mul-of-pos-right}
 use native.Mathlib.Omega.{arith}
 use Rattle.nodes.specs.Nodes.{Kind, aWait, aMove, counted, nothingCounted, limited}

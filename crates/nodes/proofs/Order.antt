@@ -1,12 +1,12 @@
 -- The nodes of a tree in the order of their lines are the nodes of the table in the order of their numbers.
 use mathlib.Core.Path.{_≡_, refl, sym, ap, ap₂, subst, _∙_}
-use Prim.Native.Nat.{ℕ, suc, _+_}
+use Prim.Native.Nat.{ℕ, _+_}
 use native.Mathlib.Omega.{arith}
 use mathlib.Core.List.{List, [], _∷_, _++_, append-assoc, append-nil}
 use lib.ListN.{length, length-append}
 use Rattle.rules.specs.Tree.{Waits, noWaits, wait, Moves, noMoves, move, Wait, Move, movesOfWaits, movesOfMoves, waitsOfWaits, waitsOfMoves}
 use Rattle.nodes.specs.Nodes.{aWait, aMove, nodesOfWaits, nodesOfMoves, size}
-use Rattle.nodes.specs.Table.{Property, Each, nothing, first, At}
+use Rattle.nodes.specs.Table.{Property, Each, first, At}
 use Rattle.nodes.specs.Order.{TreeNode, isMove, isWait, inOrderWaits, inOrderMoves, movesAmong, waitsAmong, InOrder, atEnd, atMove, atWait}
 
 mutual

@@ -1,14 +1,13 @@
 -- Laws of nodes in the table: their rows are all that matters, a row stored, and where the nodes end.
-use mathlib.Core.Path.{_≡_, refl, sym, ap, subst, _∙_}
-use mathlib.Core.Logic.{⊎-elim}
-use Prim.Native.Nat.{ℕ, suc, _+_, _*_, _<_, _≤_}
+use mathlib.Core.Path.{_≡_, sym, _∙_}
+use Prim.Native.Nat.{ℕ, _+_, _*_, _<_, _≤_}
 use native.Mathlib.Omega.{arith}
 use mathlib.Core.List.{List}
 use lib.ListN.{length, getD, set, length-set}
 use lib.Seq.{getD-set-same, getD-set-other}
 use Rattle.rules.specs.declared.Board.{Board}
-use Rattle.nodes.specs.Nodes.{Nodes, noNodes, node, alone, Kind, other, many, size}
-use Rattle.nodes.specs.Table.{cellIn, underIn, withNode, Property, Each, nothing, first, Row, WeighedRow, RowOn, Stand, Weighed, At}
+use Rattle.nodes.specs.Nodes.{Nodes, node, alone, Kind, other, many, size}
+use Rattle.nodes.specs.Table.{withNode, Property, Each, nothing, first, Row, WeighedRow, RowOn, WeighedOn, Stand, Weighed, At}
 
 -- a property of each node from i on gives another one
 pub each-map : {P Q : Property} {k : Kind} {i : ℕ} {n : Nodes}
@@ -20,6 +19,11 @@ each-map f (first p below rest) =
     (f _ _ _ _ (omega arith) (omega arith) p)
     (each-map (λ k j c u from to q. f k j c u (omega arith) (omega arith) q) below)
     (each-map (λ k j c u from to q. f k j c u (omega arith) (omega arith) q) rest)
+
+-- two properties of each node give a third one
+pub each-both : {P Q R : Property} {k : Kind} {i : ℕ} {n : Nodes} → ((k : Kind) (j c : ℕ) (u : Nodes) → P k j c u → Q k j c u → R k j c u) → Each P k i n → Each Q k i n → Each R k i n
+each-both f nothing nothing = nothing
+each-both f (first p below rest) (first q below′ rest′) = first (f _ _ _ _ p q) (each-both f below below′) (each-both f rest rest′)
 
 -- one node, as nodes side by side
 pub alone-at : {P : Property} {k : Kind} {i c : ℕ} {u : Nodes} → Each P k i (alone c u) → At P k i c u
@@ -62,6 +66,20 @@ stand-on-agree a s = each-map (λ k j c u from to r. record { row = row-agree a 
 -- weighed nodes stand
 pub stand-of-weighed : {t : List ℕ} {k : Kind} {i : ℕ} {n : Nodes} → Weighed t k i n → Stand t k i n
 stand-of-weighed s = each-map (λ k j c u from to r. r .row) s
+
+-- nodes that stand weighed, and with cells of the board
+pub weighed-on : {b : Board} {t : List ℕ} {k : Kind} {i : ℕ} {n : Nodes} → Weighed t k i n → Each (RowOn b t) k i n → Each (WeighedOn b t) k i n
+weighed-on s r = each-both (λ k j c u p q. record { weight = p; on = q .on }) s r
+
+pub weighed-on-at : {b : Board} {t v : List ℕ} {k : Kind} {i c : ℕ} {u : Nodes} → At (WeighedRow v) k i c u → At (RowOn b t) k i c u → At (WeighedOn b v) k i c u
+weighed-on-at n m =
+    record {
+      here = record { weight = n .here; on = m .here .on };
+      below = each-both (λ k j c u p q. record { weight = p; on = q .on }) (n .below) (m .below);
+    }
+
+pub on-of-weighed : {b : Board} {t : List ℕ} {k : Kind} {i : ℕ} {n : Nodes} → Each (WeighedOn b t) k i n → Each (RowOn b t) k i n
+on-of-weighed s = each-map (λ k j c u from to r. record { row = r .weight .row; on = r .on }) s
 
 -- a row stored is there, and the rows of other nodes stay
 pub stored-row : (t : List ℕ) (k : Kind) (i c n : ℕ) (u : Nodes) → 4 * i + 3 < length t → many u ≡ n → Row (withNode t i c n) k i c u

@@ -1,9 +1,9 @@
 -- A walk over nodes side by side: what is left of them, and one step. For any property of the rows, and any one of what is left.
 use mathlib.Core.Path.{_≡_, refl}
-use Prim.Native.Nat.{ℕ, suc, _+_, _-_, _<_, _≤_}
+use Prim.Native.Nat.{ℕ, _+_, _-_, _<_, _≤_}
 use native.Mathlib.Omega.{arith}
 use Rattle.nodes.specs.Nodes.{Nodes, noNodes, node, Kind, other, many, size}
-use Rattle.nodes.specs.Table.{Property, Each, nothing, first, At, SomeNode}
+use Rattle.nodes.specs.Table.{Property, Each, first, At, SomeNode}
 
 -- of the nodes n from b on, m are left, from next on, and Q holds of them
 pub record Left (P : Property) (k : Kind) (b next m : ℕ) (n : Nodes) (Q : Nodes → Type 0) : Type 0 where

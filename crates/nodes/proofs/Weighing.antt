@@ -1,13 +1,13 @@
 -- What weighing leaves as it was, what it stores, and the loop over the nodes under a node.
-use mathlib.Core.Path.{_≡_, refl, sym, ap, subst, _∙_}
-use Prim.Native.Nat.{ℕ, suc, _+_, _*_, _-_, _<_, _≤_}
+use mathlib.Core.Path.{_≡_, refl, sym, ap, _∙_}
+use Prim.Native.Nat.{ℕ, _+_, _*_, _<_, _≤_}
 use native.Mathlib.Omega.{arith}
 use mathlib.Core.List.{List}
 use lib.ListN.{length, getD, set, length-set}
 use lib.Seq.{getD-set-same, getD-set-other}
 use Rattle.rules.specs.declared.Board.{Board}
 use Rattle.nodes.specs.Nodes.{Nodes, noNodes, node, alone, Kind, aWait, aMove, other, counted, nothingCounted, many, size, countOf, limited}
-use Rattle.nodes.specs.Table.{cellIn, underIn, endIn, countIn, withWeight, Property, Each, nothing, first, Row, WeighedRow, RowOn, Stand, Weighed, At, SomeNode}
+use Rattle.nodes.specs.Table.{underIn, withWeight, Each, nothing, first, Row, WeighedRow, RowOn, Stand, Weighed, At, SomeNode}
 use Rattle.nodes.specs.Weighing.{withOwn, weighed, Weighs, WeighsAny}
 use Rattle.nodes.proofs.Limited.{limited-left, limited-right, counted-assoc, counted-nothing, counted-last}
 use Rattle.nodes.proofs.Table.{each-map, Agree, agree-within, row-agree, weighed-row-agree, stand-agree, weighed-agree, node-end, alone-at}

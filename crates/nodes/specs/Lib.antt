@@ -1,3 +1,4 @@
+-- What the contracts of `nodes` cite.
 pub mod Nodes
 pub mod Table
 pub mod Weighing

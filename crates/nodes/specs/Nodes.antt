@@ -1,5 +1,5 @@
 -- The nodes of a sheet as the table has them, without their lines: waits and moves alike, how many they are, and their outcomes' count.
-use Prim.Native.Nat.{ℕ, zero, suc, _+_, _*_, min}
+use Prim.Native.Nat.{ℕ, suc, _+_, _*_, min}
 use mathlib.Core.Bool.{Bool, false, _||_}
 use lib.Dec.{eqb}
 use Rattle.rules.specs.Sizes.{mostOutcomes}

@@ -1,7 +1,7 @@
 -- The node table: node i stands at its numbers 4i to 4i + 3, which are its cell, the number of nodes right under it, the node after
 -- all under it, and its number of outcomes.
 use mathlib.Core.Path.{_≡_}
-use Prim.Native.Nat.{ℕ, suc, _+_, _*_, _<_, _≤_}
+use Prim.Native.Nat.{ℕ, _+_, _*_, _<_, _≤_}
 use mathlib.Core.List.{List}
 use lib.ListN.{length, getD, set}
 use Rattle.rules.specs.Board.{cells}
@@ -51,6 +51,11 @@ pub record WeighedRow (t : List ℕ) (k : Kind) (i c : ℕ) (u : Nodes) : Type 0
 -- besides the first two, its cell is one of the board, or 0
 pub record RowOn (b : Board) (t : List ℕ) (k : Kind) (i c : ℕ) (u : Nodes) : Type 0 where
   pub row : Row t k i c u
+  pub on : c ≤ cells b
+
+-- it is weighed, and its cell is one of the board, or 0
+pub record WeighedOn (b : Board) (t : List ℕ) (k : Kind) (i c : ℕ) (u : Nodes) : Type 0 where
+  pub weight : WeighedRow t k i c u
   pub on : c ≤ cells b
 
 -- the nodes stand in the table from node i on

@@ -1,6 +1,6 @@
 -- The table with the ends and the counts stored, and what weighing a node answers.
 use mathlib.Core.Path.{_≡_}
-use Prim.Native.Nat.{ℕ, suc, _+_, _*_}
+use Prim.Native.Nat.{ℕ, _+_}
 use mathlib.Core.List.{List}
 use Rattle.nodes.specs.Nodes.{Nodes, noNodes, node, alone, Kind, other, size, countOf, limited}
 use Rattle.nodes.specs.Table.{withWeight, Row, At}

@@ -1,0 +1,4 @@
+pub mod Run
+pub mod Parts
+pub mod Seen
+pub mod Numbered

@@ -1,0 +1,3 @@
+-- What the contracts of `outcomes` cite.
+pub mod Picking
+pub mod Searching
