@@ -7,3 +7,4 @@ pub mod Weighing
 pub mod Collecting
 pub mod Order
 pub mod Beside
+pub mod Sheets

@@ -32,15 +32,15 @@ number-range lo hi s y e =
     subst (λ (z : ℕ × Bytes). (lo ≤ z .0) × (z .0 ≤ hi)) (some-inj (b .2))
     (leb→le lo (a .0 .0) (fst (leb lo (a .0 .0)) (leb (a .0 .0) hi) g), leb→le (a .0 .0) hi (snd (leb lo (a .0 .0)) (leb (a .0 .0) hi) g))
 
--- a wait's line has at least one move under it
-wait-under : (s : Bytes) (y : Line × Bytes) → waitLine s ≡ some y → 1 ≤ y .0 .under
+-- a wait's line names no cell, and has at least one move under it
+pub wait-says : (s : Bytes) (y : Line × Bytes) → waitLine s ≡ some y → (y .0 .place ≡ none) × (1 ≤ y .0 .under)
 unfolding waitLine giveText
-wait-under s y e =
+wait-says s y e =
     let a = bind-some (word "w" s) _ y e in
     let b = bind-some (tab (a .0 .1)) _ y (a .2) in
     let c = bind-some (numberIn 1 mostUnder (b .0 .1)) _ y (b .2) in
     let d = bind-some (lineFeed (c .0 .1)) _ y (c .2) in
-    subst (λ (z : Line × Bytes). 1 ≤ z .0 .under) (some-inj (d .2)) ((number-range 1 mostUnder (b .0 .1) (c .0) (c .1)) .0)
+    subst (λ (z : Line × Bytes). (z .0 .place ≡ none) × (1 ≤ z .0 .under)) (some-inj (d .2)) (refl, (number-range 1 mostUnder (b .0 .1) (c .0) (c .1)) .0)
 
 -- a move's line names a cell
 move-place : (s : Bytes) (y : Line × Bytes) → moveLine s ≡ some y → IsSome (y .0 .place)
@@ -127,7 +127,7 @@ unfolding nodeLine
 node-got b r levels s y [] e h = absurd (not-refused (rw (e, nodeLine) at h))
 node-got b r levels s y (c ∷ t) e h = counted-got b r levels s y (eqb (s .nodes) mostNodes) refl (rw (e, nodeLine) at h)
 
-node-read : (b : Board) (r : Reader Line) (levels : ℕ) (s : Spot) (y : Node × Spot) → nodeLine b r levels s ≡ got y → NodeRead b r levels s (y .0) (y .1)
+pub node-read : (b : Board) (r : Reader Line) (levels : ℕ) (s : Spot) (y : Node × Spot) → nodeLine b r levels s ≡ got y → NodeRead b r levels s (y .0) (y .1)
 node-read b r levels s y h = node-got b r levels s y (s .text) refl h
 
 -- the cell of a node that was read: none, or one of the board; a move's line names one
@@ -289,7 +289,7 @@ mutual
       let t = turns (p .0 .0 .under) (readMove levels b moveLine) (p .0 .1) (q .0) (q .1) in
       let g = moves-turned b levels (readMove levels b moveLine) (λ s′ m u e′. move-read levels b moveLine s′ m u e′) (t .0) in
       let drop-one : suc levels - 1 ≡ levels = omega arith in
-      let under : 1 ≤ length (q .0 .0) = omega (arith, t .1, n .its-under, wait-under (s .text) (n .line-read) (n .by-reader)) in
+      let under : 1 ≤ length (q .0 .0) = omega (arith, t .1, n .its-under, (wait-says (s .text) (n .line-read) (n .by-reader)) .1) in
       subst (λ (z : Wait × Spot). WaitRead b (suc levels) s (z .0) (z .1)) (got-inj (q .2))
       (record {
         line-of = n .its-line;

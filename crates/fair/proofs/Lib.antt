@@ -1,0 +1,4 @@
+pub mod Found
+pub mod Laid
+pub mod WhichKind
+pub mod Search

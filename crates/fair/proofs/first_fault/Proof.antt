@@ -1,0 +1,80 @@
+-- Each node passed has no faulty cell; the first that has one is found.
+use mathlib.Core.Path.{ap, _∙_}
+use mathlib.Core.Option.{some}
+use Prim.Native.Nat.{ℕ, _-_, _≤_}
+use native.Mathlib.Omega.{arith}
+use Rattle.nodes.proofs.Table.{node-end}
+use Rattle.nodes.proofs.Sheets.{sheet-fits, sheet-stands, sheet-end}
+use Rattle.fair.proofs.Search.{Searching, search-starts, search-node, search-again, search-found, search-ends, smallest-low}
+use Rattle.fair.proofs.first_fault.Statement.{statement}
+use Rattle.fair.proofs.first_fault.Tie as tie
+
+abbrev Inv-loop : tie.InvT-loop
+Inv-loop table board test end i₀ i = (i ≤ end) × Searching test board table i end
+
+abbrev μ-loop : tie.MeasureT-loop
+μ-loop table board test end i₀ i = end - i
+
+end-at-requires : tie.Need-end-at-requires Inv-loop μ-loop
+end-at-requires c κs = sheet-stands (c .before .pre .held) .here .room
+
+loop-holds : tie.Need-loop-holds Inv-loop μ-loop
+loop-holds c = (omega arith, search-starts _ _ _ _ (c .end-at .ensures))
+
+faulty-at-requires : tie.Need-faulty-at-requires Inv-loop μ-loop
+faulty-at-requires c κs =
+    let s = c .before .before .before .before .pre in
+    (sheet-fits (s .held), search-node (c .before .loop .inv .1) (omega arith) s)
+
+least-requires : tie.Need-least-requires Inv-loop μ-loop
+least-requires c κs = sheet-fits (c .before .before .before .before .before .pre .held)
+
+line-of-requires : tie.Need-line-of-requires Inv-loop μ-loop
+line-of-requires c κs =
+    let s = c .before .before .before .before .before .before .before .pre in
+    omega (arith, c .before .before .before .before .before .end-at .ensures, sheet-end (s .held), node-end (sheet-stands (s .held)), s .held .long)
+
+cast-t10 : tie.Need-cast-t10 Inv-loop μ-loop
+cast-t10 c =
+    let s = c .before .before .before .before .before .before .before .before .pre in
+    let e = c .before .before .least .ensures in
+    omega (arith, e, smallest-low _ _ (sheet-fits (s .held)) (λ z. c .before .if1 .taken (e ∙ z)))
+
+returns : tie.Need-returns Inv-loop μ-loop
+returns c = λ s h.
+    let l = c .before .before .before .before .before .loop in
+    let cell = c .before .before .least in
+    ap (λ (n : ℕ). some (record { line = n; cell = cell .result })) (c .line-of .ensures)
+    ∙ search-found (l .inv .1) (omega arith) _ (c .before .before .before .faulty-at .ensures) _ (cell .ensures) (c .before .if1 .taken) s h
+
+add-i : tie.Need-add-i Inv-loop μ-loop
+add-i c = omega arith
+
+loop-less : tie.Need-loop-less Inv-loop μ-loop
+loop-less c = omega arith
+
+loop-again : tie.Need-loop-again Inv-loop μ-loop
+loop-again c =
+    let l = c .before .before .before .before .loop in
+    (omega arith, search-again (l .inv .1) (omega arith) _ (c .before .before .faulty-at .ensures) _ (c .before .least .ensures) (c .if1 .left))
+
+returns-2 : tie.Need-returns-2 Inv-loop μ-loop
+returns-2 c = search-ends (c .before .loop .inv .1) (omega arith)
+
+pub first-fault-spec : {M : Type 1} → statement M
+first-fault-spec =
+    tie.close
+    (tie.spec
+    Inv-loop
+    μ-loop
+    end-at-requires
+    loop-holds
+    faulty-at-requires
+    least-requires
+    line-of-requires
+    cast-t10
+    returns
+    add-i
+    loop-less
+    loop-again
+    returns-2)

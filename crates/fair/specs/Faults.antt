@@ -1,0 +1,79 @@
+-- What the tests of fair sheets answer: the faulty cells of a node of the table, and the first fault of a sheet.
+use mathlib.Core.Path.{_≡_}
+use mathlib.Core.Logic.{_≢_}
+use mathlib.Core.Bool.{Bool, false, not, _&&_, _||_}
+use mathlib.Core.List.{List}
+use mathlib.Core.Option.{Option, none, some}
+use Prim.Native.Nat.{ℕ, _+_, _≤_}
+use lib.Dec.{eqb}
+use Rattle.rules.specs.declared.Board.{Board}
+use Rattle.rules.specs.Tree.{noMoves, Wait, Move, Sheet}
+use Rattle.rules.specs.Fair.{Fault, notApart, notElusive, firstNotApart, firstNotElusive}
+use Rattle.cells.specs.Cells.{held}
+use Rattle.nodes.specs.Nodes.{aWait, aMove, nodesOfWaits, nodesOfMoves}
+use Rattle.nodes.specs.Table.{cellIn, RowOn, At}
+use Rattle.nodes.specs.Order.{TreeNode, isMove, isWait}
+use Rattle.fair.specs.declared.Fault as answered
+use Rattle.fair.specs.declared.Test.{Test}
+use Rattle.fair.specs.declared.Test.the-variants.{Apart, Elusive}
+
+-- the fault that an answer tells
+abbrev pub faultSeen : answered.Fault → Option Fault
+faultSeen (answered.the-variants.At l c) = some (record { line = l; cell = c })
+faultSeen answered.the-variants.Nothing = none
+
+-- the first fault of a sheet by a test
+abbrev pub firstBy : Test → Sheet → Option Fault
+firstBy Apart s = firstNotApart s
+firstBy Elusive s = firstNotElusive s
+
+-- x is faulty at a node by a test: only a move is not apart, only a wait is not elusive
+abbrev pub faultyBy : Test → TreeNode → ℕ → Bool
+faultyBy Apart (isMove m) x = notApart m x
+faultyBy Apart (isWait w) x = false
+faultyBy Elusive (isMove m) x = false
+faultyBy Elusive (isWait w) x = notElusive w x
+
+-- the line of a node of the tree, and of a node number of the table
+abbrev pub lineOf : TreeNode → ℕ
+lineOf (isMove m) = m .line
+lineOf (isWait w) = w .line
+
+abbrev pub lineAt : ℕ → ℕ
+lineAt i = i + 2
+
+-- the first node is a move, and so is any other that has a cell
+abbrev pub isMoveAt : List ℕ → ℕ → Bool
+isMoveAt t i = eqb i 0 || not (eqb (cellIn t i) 0)
+
+-- this move, or this wait, stands at node i
+abbrev pub MoveAt : Board → List ℕ → ℕ → Move → Type 0
+MoveAt b t i m = At (RowOn b t) aMove i (m .cell) (nodesOfWaits (m .waits))
+
+abbrev pub WaitAt : Board → List ℕ → ℕ → Wait → Type 0
+WaitAt b t i w = At (RowOn b t) aWait i 0 (nodesOfMoves (w .moves))
+
+-- a node of a sheet's tree stands at node i: only the root may have no cell, and it is a move; a wait has a move under it
+pub data NodeAt (b : Board) (t : List ℕ) (i : ℕ) : TreeNode → Type 0 where
+  moveAt : {m : Move} → MoveAt b t i m → (1 ≤ i → 1 ≤ m .cell) → NodeAt b t i (isMove m)
+  waitAt : {w : Wait} → WaitAt b t i w → 1 ≤ i → w .moves ≢ noMoves → NodeAt b t i (isWait w)
+
+-- some node of a tree stands there
+pub record SomeTreeNode (b : Board) (t : List ℕ) (i : ℕ) : Type 0 where
+  pub node : TreeNode
+  pub at : NodeAt b t i node
+
+-- a set is the faulty cells of the move, the wait, the node that stands at node i, whatever it is
+abbrev pub FoundAtMove : Board → List ℕ → ℕ → List ℕ → Type 0
+FoundAtMove b t i rows = (m : Move) → MoveAt b t i m → (x : ℕ) → 1 ≤ x → held b rows x ≡ notApart m x
+
+abbrev pub FoundAtWait : Board → List ℕ → ℕ → List ℕ → Type 0
+FoundAtWait b t i rows = (w : Wait) → WaitAt b t i w → (x : ℕ) → 1 ≤ x → held b rows x ≡ notElusive w x
+
+abbrev pub FoundAt : Test → Board → List ℕ → ℕ → List ℕ → Type 0
+FoundAt test b t i rows = (n : TreeNode) → NodeAt b t i n → (x : ℕ) → 1 ≤ x → held b rows x ≡ faultyBy test n x
+
+-- one more set in a tally of the cells found once or more, and twice or more
+pub record Adds (once twice more once′ twice′ : List ℕ) : Type 0 where
+  pub once-are : (b : Board) (x : ℕ) → held b once′ x ≡ (held b once x || held b more x)
+  pub twice-are : (b : Board) (x : ℕ) → held b twice′ x ≡ (held b twice x || (held b once x && held b more x))

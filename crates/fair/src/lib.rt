@@ -1,0 +1,174 @@
+// fair: apart and elusive, decided over the node table. It holds the two searches for the first faulty node, each with that node's
+// smallest faulty cell. It sees rules, cells and nodes.
+ghost use mathlib.Core.Path.{_≡_};
+ghost use Prim.Native.Nat.{_+_, _*_, _<_, _≤_};
+ghost use lib.ListN.{length};
+ghost use Rattle.rules.specs.Fair.{firstNotApart, firstNotElusive};
+ghost use Rattle.rules.specs.Sizes.{mostNodes};
+ghost use Rattle.rules.specs.Tree.{Sheet};
+ghost use Rattle.cells.specs.Cells.{Fits};
+ghost use Rattle.nodes.specs.Nodes.{aWait, aMove};
+ghost use Rattle.nodes.specs.Table.{underIn, RowOn, SomeNode};
+ghost use Rattle.nodes.specs.Sheets.{HoldsSheet, SomeSheet};
+ghost use Rattle.fair.specs.Faults.{faultSeen, firstBy, lineAt, isMoveAt, SomeTreeNode, FoundAtMove, FoundAtWait, FoundAt, Adds};
+use cells::Cells;
+use nodes::cell_at;
+use nodes::collect_move;
+use nodes::collect_wait;
+use nodes::end_at;
+use nodes::under_at;
+use nodes::with_stone;
+use rules::Board;
+
+// The line of the first faulty node, and its smallest faulty cell.
+pub enum Fault {
+    At { line: u32, cell: u32 },
+    Nothing,
+}
+
+// Which nodes are tested, and how: apart is asked of moves, elusive of waits.
+enum Test {
+    Apart,
+    Elusive,
+}
+
+// The cells found once or more, and those found twice or more.
+struct Seen {
+    once: Cells,
+    twice: Cells,
+}
+
+impl Seen {
+    // One more set in the tally.
+    fn add(self, more: Cells) -> Seen
+        ensures { λ r. ⌜ Adds (self .once .rows) (self .twice .rows) (more .rows) (r .once .rows) (r .twice .rows) ⌝ }
+    {
+        let once = self.once;
+        let twice = self.twice;
+        let both = once.meet(more);
+        Seen {
+            once: once.union(more),
+            twice: twice.union(both),
+        }
+    }
+}
+
+// The faulty cells of the move at node i: its own where it is found under it, and those found in two or more of its waits.
+fn not_apart_at(table: &[u32], board: Board, i: usize) -> Cells
+    requires fits { ⌜ Fits board ⌝ }
+    requires stands { ⌜ SomeNode (RowOn board (now table)) aMove i ⌝ }
+    ensures { λ r. ⌜ FoundAtMove board (now (table .entry)) i (r .rows) ⌝ }
+{
+    let under = under_at(table, i);
+    let cell = cell_at(table, i);
+    let own = with_stone(Cells::empty(), board, cell);
+    let mut seen = Seen {
+        once: own,
+        twice: Cells::empty(),
+    };
+    let mut next = i + 1;
+    let mut j = 0;
+    while j < under {
+        let w = collect_wait(table, board, next, Cells::empty());
+        seen = seen.add(w.cells);
+        next = w.next;
+        j += 1;
+    }
+    seen.twice
+}
+
+// The faulty cells of the wait at node i: those found in every one of its moves.
+fn not_elusive_at(table: &[u32], board: Board, i: usize) -> Cells
+    requires fits { ⌜ Fits board ⌝ }
+    requires stands { ⌜ SomeNode (RowOn board (now table)) aWait i ⌝ }
+    requires some { ⌜ 1 ≤ underIn (now table) i ⌝ }
+    ensures { λ r. ⌜ FoundAtWait board (now (table .entry)) i (r .rows) ⌝ }
+{
+    let under = under_at(table, i);
+    let first = collect_move(table, board, i + 1, Cells::empty());
+    let mut cells = first.cells;
+    let mut next = first.next;
+    let mut j = 1;
+    while j < under {
+        let m = collect_move(table, board, next, Cells::empty());
+        cells = cells.meet(m.cells);
+        next = m.next;
+        j += 1;
+    }
+    cells
+}
+
+// Whether node i is a move: the first node, and any other that has a cell.
+fn is_move(table: &[u32], i: usize) -> bool
+    requires { ⌜ 4 * i + 3 < length (now table) ⌝ }
+    ensures { λ r. ⌜ r ≡ isMoveAt (now (table .entry)) i ⌝ }
+{
+    i == 0 || cell_at(table, i) != 0
+}
+
+// The faulty cells of node i; none where it is of the kind that is not tested.
+fn faulty_at(table: &[u32], board: Board, i: usize, test: Test) -> Cells
+    requires fits { ⌜ Fits board ⌝ }
+    requires stands { ⌜ SomeTreeNode board (now table) i ⌝ }
+    ensures { λ r. ⌜ FoundAt test board (now (table .entry)) i (r .rows) ⌝ }
+{
+    let of_move = is_move(table, i);
+    match test {
+        Test::Apart => {
+            if of_move {
+                not_apart_at(table, board, i)
+            } else {
+                Cells::empty()
+            }
+        }
+        Test::Elusive => {
+            if of_move {
+                Cells::empty()
+            } else {
+                not_elusive_at(table, board, i)
+            }
+        }
+    }
+}
+
+// The line of a node.
+fn line_of(node: usize) -> u32
+    requires { ⌜ node < mostNodes ⌝ }
+    ensures { λ r. ⌜ r ≡ lineAt node ⌝ }
+{
+    (node + 2) as u32
+}
+
+// The first faulty node by the test.
+fn first_fault(table: &[u32], board: Board, test: Test) -> Fault
+    requires { ⌜ SomeSheet (now table) board ⌝ }
+    ensures { λ r. ⌜ ((s : Sheet) → HoldsSheet (now (table .entry)) board s → faultSeen r ≡ firstBy test s) ⌝ }
+{
+    let end = end_at(table, 0);
+    for i in 0..end {
+        let cell = faulty_at(table, board, i, test).least(board);
+        if cell != 0 {
+            return Fault::At {
+                line: line_of(i),
+                cell: cell as u32,
+            };
+        }
+    }
+    Fault::Nothing
+}
+
+// 10: the first move that is not apart.
+pub fn not_apart(table: &[u32], board: Board) -> Fault
+    requires { ⌜ SomeSheet (now table) board ⌝ }
+    ensures { λ r. ⌜ ((s : Sheet) → HoldsSheet (now (table .entry)) board s → faultSeen r ≡ firstNotApart s) ⌝ }
+{
+    first_fault(table, board, Test::Apart)
+}
+
+// 11: the first wait that is not elusive.
+pub fn not_elusive(table: &[u32], board: Board) -> Fault
+    requires { ⌜ SomeSheet (now table) board ⌝ }
+    ensures { λ r. ⌜ ((s : Sheet) → HoldsSheet (now (table .entry)) board s → faultSeen r ≡ firstNotElusive s) ⌝ }
+{
+    first_fault(table, board, Test::Elusive)
+}

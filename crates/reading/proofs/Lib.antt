@@ -1,0 +1,4 @@
+pub mod Line
+pub mod Storing
+pub mod Standing
+pub mod Body

@@ -1,0 +1,3 @@
+pub mod Spots
+pub mod Storing
+pub mod Kept

@@ -1,0 +1,186 @@
+// reading: from the body of a sheet, the text after its header, to the node table. It holds the reading of node lines and of
+// nodes with all under them. It sees rules, nodes and lines.
+ghost use mathlib.Core.Path.{_≡_};
+ghost use lib.ListN.{length};
+ghost use Rattle.rules.specs.Sizes.{leastWorkspace};
+ghost use Rattle.reading.specs.Spots.{spotOf, Ready};
+ghost use Rattle.reading.specs.Storing.{below, storeAll, storeNode};
+ghost use Rattle.reading.specs.Kept.{SaidKept, ReadKept, BodyReady, BodyKept};
+use lines::Kind;
+use lines::LineRead;
+use lines::Numbered;
+use lines::node_line;
+use lines::number_on;
+use nodes::set_node;
+use rules::Board;
+use rules::Verdict;
+
+// Where the reading stands: the place in the body, the number of the line there, and the nodes read so far.
+pub struct Spot {
+    pub at: usize,
+    pub line: usize,
+    pub nodes: usize,
+}
+
+// What a node's line says: its cell's number, the number of nodes under it, and where the next line begins; or the refusal.
+pub enum Said {
+    Got { cell: u32, under: u32, next: usize },
+    Refused { verdict: Verdict },
+}
+
+// The line of the next node. In this order: 8, 6, 4, 7, 5.
+fn line_here(body: &[u8], board: Board, kind: Kind, levels: usize, spot: Spot) -> Said
+    requires { ⌜ Ready board (now body) spot ⌝ }
+    ensures { λ r. ⌜ SaidKept board kind levels (now (body .entry)) spot r ⌝ }
+{
+    let at = spot.at;
+    let line = spot.line as u32;
+    if body.len() <= at {
+        return Said::Refused {
+            verdict: Verdict::Unfinished { line },
+        };
+    }
+    if spot.nodes == 2048 {
+        return Said::Refused {
+            verdict: Verdict::TooManyNodes { line },
+        };
+    }
+    let LineRead::Got { line: said, next } = node_line(body, at, kind) else {
+        return Said::Refused {
+            verdict: Verdict::BadLine { line },
+        };
+    };
+    if levels == 0 {
+        return Said::Refused {
+            verdict: Verdict::TooDeep { line },
+        };
+    }
+    let name = said.cell;
+    let Numbered::On(cell) = number_on(board, name) else {
+        return Said::Refused {
+            verdict: Verdict::OffBoard { line },
+        };
+    };
+    Said::Got {
+        cell,
+        under: said.under,
+        next,
+    }
+}
+
+// Under a move stand waits, under a wait moves.
+fn kind_below(kind: Kind) -> Kind
+    ensures { λ r. ⌜ r ≡ below kind ⌝ }
+{
+    match kind {
+        Kind::First => Kind::Wait,
+        Kind::Move => Kind::Wait,
+        Kind::Wait => Kind::Move,
+    }
+}
+
+// What was read: the spot after it, or the refusal.
+pub enum Read {
+    Got { after: Spot },
+    Refused { verdict: Verdict },
+}
+
+// A node of the kind with all under it, stored in the table, where so many levels are left, its own among them.
+pub fn read_node(
+    body: &[u8],
+    table: &mut [u32],
+    board: Board,
+    kind: Kind,
+    levels: usize,
+    spot: Spot,
+) -> Read
+    requires ready { ⌜ Ready board (now body) spot ⌝ }
+    requires long { ⌜ length (now table) ≡ leastWorkspace ⌝ }
+    ensures { λ r. ⌜ ReadKept board (now (body .entry)) (storeNode levels kind board (spotOf (now (body .entry)) spot) (now (table .entry))) r (now (table .exit)) ⌝ }
+{
+    let said = line_here(body, board, kind, levels, spot);
+    match said {
+        Said::Refused { verdict } => Read::Refused { verdict },
+        Said::Got { cell, under, next } => {
+            let nodes = spot.nodes;
+            set_node(table, nodes, cell, under);
+            let after = Spot {
+                at: next,
+                line: spot.line + 1,
+                nodes: nodes + 1,
+            };
+            read_all(
+                body,
+                table,
+                board,
+                kind_below(kind),
+                levels - 1,
+                under,
+                after,
+            )
+        }
+    }
+}
+
+// So many nodes of the kind one after another, each with all under it.
+fn read_all(
+    body: &[u8],
+    table: &mut [u32],
+    board: Board,
+    kind: Kind,
+    levels: usize,
+    many: u32,
+    spot: Spot,
+) -> Read
+    requires ready { ⌜ Ready board (now body) spot ⌝ }
+    requires long { ⌜ length (now table) ≡ leastWorkspace ⌝ }
+    ensures { λ r. ⌜ ReadKept board (now (body .entry)) (storeAll many (storeNode levels kind board) (spotOf (now (body .entry)) spot) (now (table .entry))) r (now (table .exit)) ⌝ }
+{
+    let mut here = spot;
+    let mut left = many;
+    while 0 < left {
+        let one = read_node(body, table, board, kind, levels, here);
+        match one {
+            Read::Refused { verdict } => {
+                return Read::Refused { verdict };
+            }
+            Read::Got { after } => {
+                here = after;
+            }
+        }
+        left -= 1;
+    }
+    Read::Got { after: here }
+}
+
+// The reading of a body: its tree is in the table, or it is refused.
+pub enum BodyRead {
+    Got,
+    Refused { verdict: Verdict },
+}
+
+// The body after the header line, read as a text that begins where the header ended: one tree and no text after it.
+pub fn read_body(body: &[u8], table: &mut [u32], board: Board) -> BodyRead
+    requires { ⌜ BodyReady board (now body) (now table) ⌝ }
+    ensures { λ r. ⌜ BodyKept board (now (body .entry)) (now (table .entry)) r (now (table .exit)) ⌝ }
+{
+    let start = Spot {
+        at: 0,
+        line: 2,
+        nodes: 0,
+    };
+    let read = read_node(body, table, board, Kind::First, 128, start);
+    match read {
+        Read::Refused { verdict } => BodyRead::Refused { verdict },
+        Read::Got { after } => {
+            if after.at < body.len() {
+                let line = after.line as u32;
+                BodyRead::Refused {
+                    verdict: Verdict::TextAfter { line },
+                }
+            } else {
+                BodyRead::Got
+            }
+        }
+    }
+}
