@@ -99,7 +99,7 @@ fn not_elusive_at(table: &[u32], board: Board, i: usize) -> Cells
 }
 
 // Whether node i is a move: the first node, and any other that has a cell.
-fn is_move(table: &[u32], i: usize) -> bool
+pub fn is_move(table: &[u32], i: usize) -> bool
     requires { ⌜ 4 * i + 3 < length (now table) ⌝ }
     ensures { λ r. ⌜ r ≡ isMoveAt (now (table .entry)) i ⌝ }
 {

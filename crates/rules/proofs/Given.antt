@@ -161,25 +161,29 @@ module _ (w : ℕ) (t : Bytes) where
   unfolding judge _>>=_
   reply-got s z e = rw (accepted-read z, e)
 
--- a sheet that was read
+-- a sheet that was read: 10, 11 and 12
 module _ (s : Sheet) where
-  fault-apart : (f : Fault) → firstNotApart s ≡ some f → judged (fair s >>= satisfying) ≡ NotApart (f .line) (f .cell)
-  unfolding judged fair refuseFault _>>=_
-  fault-apart f e = rw e
+  pub fair-apart : (f : Fault) → firstNotApart s ≡ some f → fair s ≡ refused (NotApart (f .line) (f .cell))
+  unfolding fair refuseFault _>>=_
+  fair-apart f e = rw e
 
-  fault-elusive : (f : Fault) → firstNotApart s ≡ none → firstNotElusive s ≡ some f → judged (fair s >>= satisfying) ≡ NotElusive (f .line) (f .cell)
-  unfolding judged fair refuseFault _>>=_
-  fault-elusive f a e = rw (a, e)
+  pub fair-elusive : (f : Fault) → firstNotApart s ≡ none → firstNotElusive s ≡ some f → fair s ≡ refused (NotElusive (f .line) (f .cell))
+  unfolding fair refuseFault _>>=_
+  fair-elusive f a e = rw (a, e)
 
-  fault-many : firstNotApart s ≡ none → firstNotElusive s ≡ none → mostOutcomes < outcomeCount s → judged (fair s >>= satisfying) ≡ TooManyOutcomes
-  unfolding judged fair refuseFault refuseIf _>>=_
-  fault-many a e m = rw (a, e, lt-ltb mostOutcomes (outcomeCount s) m)
+  pub fair-many : firstNotApart s ≡ none → firstNotElusive s ≡ none → mostOutcomes < outcomeCount s → fair s ≡ refused TooManyOutcomes
+  unfolding fair refuseFault refuseIf _>>=_
+  fair-many a e m = rw (a, e, lt-ltb mostOutcomes (outcomeCount s) m)
 
   pub fair-passed : firstNotApart s ≡ none → firstNotElusive s ≡ none → outcomeCount s ≤ mostOutcomes → fair s ≡ got s
   unfolding fair refuseFault refuseIf _>>=_
   fair-passed a e m = rw (a, e, le-ltb mostOutcomes (outcomeCount s) m)
 
-  fault-joined : (r : Result (Unit {0})) → refuseUnjoined (s .board) (s .player) 0 (outcomes s) ≡ r → satisfying s ≡ (r >>= λ u. got s)
+  fair-refused : (v : Verdict) → fair s ≡ refused v → judged (fair s >>= satisfying) ≡ v
+  unfolding judged _>>=_
+  fair-refused v e = rw e
+
+  pub fault-joined : (r : Result (Unit {0})) → refuseUnjoined (s .board) (s .player) 0 (outcomes s) ≡ r → satisfying s ≡ (r >>= λ u. got s)
   unfolding satisfying
   fault-joined r e = rw e
 
@@ -194,10 +198,10 @@ given-judge w t _ (as-small h) = reply-small w t h
 given-judge w t _ (as-long h k) = reply-long w t h k
 given-judge w t _ (as-unread v z e) = reply-unread w t v z e
 given-judge w t _ (as-not-apart s f z e h) =
-    reply-got w t s z e ∙ fault-apart s f (is-first (s .board) (λ (m : Move). m .line) notApart (everyMove s) f h)
+    reply-got w t s z e ∙ fair-refused s _ (fair-apart s f (is-first (s .board) (λ (m : Move). m .line) notApart (everyMove s) f h))
 given-judge w t _ (as-not-elusive s f z e a h) =
-    reply-got w t s z e ∙ fault-elusive s f (apart-none s a) (is-first (s .board) (λ (v : Wait). v .line) notElusive (everyWait s) f h)
-given-judge w t _ (as-too-many s z e a l m) = reply-got w t s z e ∙ fault-many s (apart-none s a) (elusive-none s l) m
+    reply-got w t s z e ∙ fair-refused s _ (fair-elusive s f (apart-none s a) (is-first (s .board) (λ (v : Wait). v .line) notElusive (everyWait s) f h))
+given-judge w t _ (as-too-many s z e a l m) = reply-got w t s z e ∙ fair-refused s _ (fair-many s (apart-none s a) (elusive-none s l) m)
 given-judge w t _ (as-not-joined s i z e a l m h) =
     reply-got w t s z e
     ∙ ap (λ (r : Result Sheet). judged (r >>= satisfying)) (fair-passed s (apart-none s a) (elusive-none s l) m)
@@ -222,7 +226,7 @@ module _ (w : ℕ) (t : Bytes) (z : WithinSizes w t) (s : Sheet) (e : readSheet 
   count-given : AllApart s → AllElusive s → (b : Bool) → ltb mostOutcomes (outcomeCount s) ≡ b → Given w t (judged (fair s >>= satisfying))
   unfolding _>>=_
   count-given a l true q =
-      subst⁻¹ (Given w t) (fault-many s (apart-none s a) (elusive-none s l) (ltb-true mostOutcomes (outcomeCount s) q))
+      subst⁻¹ (Given w t) (fair-refused s _ (fair-many s (apart-none s a) (elusive-none s l) (ltb-true mostOutcomes (outcomeCount s) q)))
       (as-too-many s z e a l (ltb-true mostOutcomes (outcomeCount s) q))
   count-given a l false q =
       let m = ltb-false mostOutcomes (outcomeCount s) q in
@@ -234,14 +238,14 @@ module _ (w : ℕ) (t : Bytes) (z : WithinSizes w t) (s : Sheet) (e : readSheet 
   unfolding firstNotElusive
   elusive-given a none q = count-given a (none-elusive s q) (ltb mostOutcomes (outcomeCount s)) refl
   elusive-given a (some f) q =
-      subst⁻¹ (Given w t) (fault-elusive s f (apart-none s a) q)
+      subst⁻¹ (Given w t) (fair-refused s _ (fair-elusive s f (apart-none s a) q))
       (as-not-elusive s f z e a (first-is (s .board) (λ (v : Wait). v .line) notElusive (everyWait s) f q))
 
   apart-given : (f : Option Fault) → firstNotApart s ≡ f → Given w t (judged (fair s >>= satisfying))
   unfolding firstNotApart
   apart-given none q = elusive-given (none-apart s q) (firstNotElusive s) refl
   apart-given (some f) q =
-      subst⁻¹ (Given w t) (fault-apart s f q) (as-not-apart s f z e (first-is (s .board) (λ (m : Move). m .line) notApart (everyMove s) f q))
+      subst⁻¹ (Given w t) (fair-refused s _ (fair-apart s f q)) (as-not-apart s f z e (first-is (s .board) (λ (m : Move). m .line) notApart (everyMove s) f q))
 
 read-given : (w : ℕ) (t : Bytes) → WithinSizes w t → (r : Result Sheet) → readSheet t ≡ r → Given w t (judge w t)
 read-given w t z (refused v) e = subst⁻¹ (Given w t) (reply-unread w t v z e) (as-unread v z e)

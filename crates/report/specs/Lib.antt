@@ -1,0 +1,4 @@
+-- What the contracts of the crate cite.
+pub mod Decimal
+pub mod Line
+pub mod Writing

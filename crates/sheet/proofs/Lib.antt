@@ -1,0 +1,5 @@
+pub mod Clearing
+pub mod Counting
+pub mod Fairness
+pub mod Reading
+pub mod Accepting
