@@ -37,6 +37,9 @@ use Rattle.sheet.specs.declared.SheetRead.the-variants as SheetRead
 pub fair-of : {s : Sheet} (r : FairRead) (count : ℕ) → FairReply s r → r ≡ FairRead.Got count → IsFair s count
 fair-of {s} r count h e = subst (FairReply s) e h
 
+pub unfair-of : (s : Sheet) (r : FairRead) (v : Verdict) → FairReply s r → r ≡ FairRead.Refused v → fair s ≡ refused v
+unfair-of s r v h e = subst (FairReply s) e h
+
 module _ {t : List ℕ} {b : Board} {s : Sheet} (h : HoldsSheet t b s) where
   -- its tree has its ends and counts, and its cells are on the board
   pub sheet-weighed : At (WeighedOn b t) aMove 0 (s .root .cell) (nodesOfWaits (s .root .waits))
@@ -93,7 +96,7 @@ module _ (s : Sheet) (r : FairRead) (a : AcceptReply s r) where
       rw (m, w, c) (sym (ap judged (i .passes)))
 
 -- of a text, with the workspace that document 01 names
-text-accepted : (w : ℕ) (t : Bytes) → leastWorkspace ≤ w → accepted w t ≡ (readText t >>= checked)
+pub text-accepted : (w : ℕ) (t : Bytes) → leastWorkspace ≤ w → accepted w t ≡ (readText t >>= checked)
 unfolding accepted read readText refuseIf _>>=_
 text-accepted w t h = rw (le-ltb w leastWorkspace h)
 

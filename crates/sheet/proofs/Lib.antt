@@ -3,3 +3,5 @@ pub mod Counting
 pub mod Fairness
 pub mod Reading
 pub mod Accepting
+pub mod Naming
+pub mod Playing

@@ -1,14 +1,23 @@
 // sheet: the public face. It holds the entries over a sheet's text and a lent workspace, and the steps that they share: reading a
 // sheet into the workspace, its fairness, and clearing. It sees all crates below.
 ghost use mathlib.Core.Path.{_≡_};
-ghost use Prim.Native.Nat.{ℕ};
+ghost use Prim.Native.Nat.{ℕ, _≤_};
+ghost use Rattle.rules.specs.Text.{Bytes};
 ghost use lib.ListN.{length, replicate};
 ghost use Rattle.rules.specs.Sizes.{leastWorkspace};
 ghost use Rattle.rules.specs.Tree.{Sheet, moveCount};
 ghost use Rattle.rules.specs.declared.Board as declared;
 ghost use Rattle.nodes.specs.Sheets.{HoldsSheet, SomeSheet};
-ghost use Rattle.rules.specs.Entries.{judged, judge, JudgeKept};
-ghost use Rattle.sheet.specs.Kept.{SheetReply, FairReply, checked, AcceptReply};
+ghost use Rattle.rules.specs.Answering.{start};
+ghost use Rattle.rules.specs.Entries.{judged, judge, JudgeKept, named, outcome, outcomeShown, OutcomeKept, rounds, playedOut, refusedPlay, play, playShown, PlayKept};
+ghost use Rattle.answering.specs.Playing.{Playable, SomePlayable};
+ghost use Rattle.sheet.specs.Kept.{SheetHeld, SheetReply, FairReply, checked, AcceptReply};
+ghost use Rattle.rules.specs.Reading.{refused};
+ghost use Rattle.sheet.specs.Naming.{listing, naming, HasOutcome, SomeOutcome, NamedKept};
+ghost use Rattle.sheet.specs.Playing.{SomeText, PlayedKept};
+use answering::PlayedOut;
+use answering::play_moves;
+use cells::Cells;
 use fair::Fault;
 use fair::is_move;
 use fair::not_apart;
@@ -20,9 +29,12 @@ use nodes::end_at;
 use nodes::weigh_move;
 use outcomes::Unjoined;
 use outcomes::first_unjoined;
+use outcomes::pick_move;
 use reading::BodyRead;
 use reading::read_body;
 use rules::Board;
+use rules::Named;
+use rules::Played;
 use rules::Player;
 use rules::Verdict;
 
@@ -188,4 +200,170 @@ pub fn judge(sheet: &[u8], workspace: &mut [u32]) -> Verdict
         return Verdict::SmallWorkspace;
     }
     judge_cleared(sheet, &mut workspace[0..8192])
+}
+
+// A refusal of outcome lists no cells.
+fn unnamed(verdict: Verdict) -> Named
+    ensures { λ r. ⌜ r ≡ outcomeShown (named (refused verdict)) ⌝ }
+{
+    Named { verdict, cells: 0 }
+}
+
+// Lists the cells of the outcome with a number of the sheet in the table: 14, or done.
+fn list_outcome(table: &[u32], board: Board, number: usize, room: &mut [u32]) -> Named
+    requires { ⌜ SomeOutcome (now table) board number ⌝ }
+    ensures { λ r. ⌜ ((s : Sheet) → HasOutcome (now (table .entry)) board s number → NamedKept (named (listing s number (length (now (room .entry))))) (now (room .entry)) r (now (room .exit))) ⌝ }
+{
+    let cells = pick_move(table, board, 0, number, Cells::empty());
+    if room.len() < cells.count(board) {
+        return unnamed(Verdict::ShortRoom);
+    }
+    let listed = cells.list(board, room);
+    Named {
+        verdict: Verdict::Done,
+        cells: listed,
+    }
+}
+
+// Names an outcome of the sheet in the table: 10, 11, 12, 18, 14, or done.
+fn name_outcome(table: &[u32], board: Board, number: u32, room: &mut [u32]) -> Named
+    requires { ⌜ SomeSheet (now table) board ⌝ }
+    ensures { λ r. ⌜ ((s : Sheet) → HoldsSheet (now (table .entry)) board s → NamedKept (named (naming s number (length (now (room .entry))))) (now (room .entry)) r (now (room .exit))) ⌝ }
+{
+    let checked = fair_sheet(table, board);
+    match checked {
+        FairRead::Refused { verdict } => unnamed(verdict),
+        FairRead::Got { outcomes } => {
+            if outcomes <= number {
+                return unnamed(Verdict::NoSuchOutcome);
+            }
+            list_outcome(table, board, number as usize, room)
+        }
+    }
+}
+
+// Names an outcome of a sheet that is read into the table.
+fn outcome_text(sheet: &[u8], number: u32, room: &mut [u32], table: &mut [u32]) -> Named
+    requires { ⌜ length (now table) ≡ leastWorkspace ⌝ }
+    ensures { λ r. ⌜ NamedKept (outcome leastWorkspace (now (sheet .entry)) number (length (now (room .entry)))) (now (room .entry)) r (now (room .exit)) ⌝ }
+{
+    let read = read_sheet(sheet, table);
+    match read {
+        SheetRead::Refused { verdict } => unnamed(verdict),
+        SheetRead::Got { board, player: _ } => name_outcome(table, board, number, room),
+    }
+}
+
+// The same, with the table cleared.
+fn outcome_cleared(sheet: &[u8], number: u32, room: &mut [u32], table: &mut [u32]) -> Named
+    requires { ⌜ length (now table) ≡ leastWorkspace ⌝ }
+    ensures { λ r. ⌜ NamedKept (outcome leastWorkspace (now (sheet .entry)) number (length (now (room .entry)))) (now (room .entry)) r (now (room .exit)) × (now (table .exit) ≡ replicate leastWorkspace 0) ⌝ }
+{
+    let named = outcome_text(sheet, number, room, table);
+    clear(table);
+    named
+}
+
+// Outcome takes a sheet, an outcome's number and room for its cells, listed in ascending order.
+pub fn outcome(sheet: &[u8], number: u32, room: &mut [u32], workspace: &mut [u32]) -> Named
+    ensures { λ r. ⌜ OutcomeKept (now (workspace .entry)) (now (sheet .entry)) number (now (room .entry)) r (now (workspace .exit)) (now (room .exit)) ⌝ }
+{
+    if workspace.len() < 8192 {
+        return unnamed(Verdict::SmallWorkspace);
+    }
+    outcome_cleared(sheet, number, room, &mut workspace[0..8192])
+}
+
+// A refusal of play, at a place of the move list or at 0, gives no answers.
+fn unplayed(verdict: Verdict, place: usize) -> Played
+    ensures { λ r. ⌜ r ≡ playShown (refusedPlay verdict place) ⌝ }
+{
+    Played {
+        verdict,
+        place,
+        answers: 0,
+        over: false,
+    }
+}
+
+// Plays the moves on the accepted sheet in the table, once to see whether one is refused and then for the answers: 15, 16, 17, or done.
+fn play_table(
+    table: &mut [u32],
+    board: Board,
+    player: Player,
+    moves: &[u32],
+    room: &mut [u32],
+) -> Played
+    requires holds { ⌜ SomePlayable (now table) board player ⌝ }
+    requires enough { ⌜ length (now moves) ≤ length (now room) ⌝ }
+    ensures { λ r. ⌜ ((s : Sheet) → Playable (now (table .entry)) board player s → PlayedKept (playedOut s (rounds s (start s) 1 (now (moves .entry)))) (now (room .entry)) r (now (room .exit))) ⌝ }
+{
+    let tried = play_moves(table, board, player, moves, room, false);
+    match tried {
+        PlayedOut::Stopped { verdict, place } => unplayed(verdict, place),
+        PlayedOut::Played { answers, over } => {
+            let _ = play_moves(table, board, player, moves, room, true);
+            Played {
+                verdict: Verdict::Done,
+                place: 0,
+                answers,
+                over,
+            }
+        }
+    }
+}
+
+// Plays the sheet in the table: 10 to 13, 14, and then for each move in turn 15, 16, 17; or done.
+fn play_sheet(
+    table: &mut [u32],
+    board: Board,
+    player: Player,
+    moves: &[u32],
+    room: &mut [u32],
+) -> Played
+    requires { ⌜ SomeText (now table) board player ⌝ }
+    ensures { λ r. ⌜ ((text : Bytes) → SheetHeld text (now (table .entry)) board player → PlayedKept (play leastWorkspace text (now (moves .entry)) (length (now (room .entry)))) (now (room .entry)) r (now (room .exit))) ⌝ }
+{
+    let accepted = accept_sheet(table, board, player);
+    match accepted {
+        FairRead::Refused { verdict } => unplayed(verdict, 0),
+        FairRead::Got { outcomes: _ } => {
+            if room.len() < moves.len() {
+                return unplayed(Verdict::ShortRoom, 0);
+            }
+            play_table(table, board, player, moves, room)
+        }
+    }
+}
+
+// Plays a sheet that is read into the table.
+fn play_text(sheet: &[u8], moves: &[u32], room: &mut [u32], table: &mut [u32]) -> Played
+    requires { ⌜ length (now table) ≡ leastWorkspace ⌝ }
+    ensures { λ r. ⌜ PlayedKept (play leastWorkspace (now (sheet .entry)) (now (moves .entry)) (length (now (room .entry)))) (now (room .entry)) r (now (room .exit)) ⌝ }
+{
+    let read = read_sheet(sheet, table);
+    match read {
+        SheetRead::Refused { verdict } => unplayed(verdict, 0),
+        SheetRead::Got { board, player } => play_sheet(table, board, player, moves, room),
+    }
+}
+
+// The same, with the table cleared.
+fn play_cleared(sheet: &[u8], moves: &[u32], room: &mut [u32], table: &mut [u32]) -> Played
+    requires { ⌜ length (now table) ≡ leastWorkspace ⌝ }
+    ensures { λ r. ⌜ PlayedKept (play leastWorkspace (now (sheet .entry)) (now (moves .entry)) (length (now (room .entry)))) (now (room .entry)) r (now (room .exit)) × (now (table .exit) ≡ replicate leastWorkspace 0) ⌝ }
+{
+    let played = play_text(sheet, moves, room, table);
+    clear(table);
+    played
+}
+
+// Play takes a sheet, a list of opponent cell numbers and room for answers.
+pub fn play(sheet: &[u8], moves: &[u32], room: &mut [u32], workspace: &mut [u32]) -> Played
+    ensures { λ r. ⌜ PlayKept (now (workspace .entry)) (now (sheet .entry)) (now (moves .entry)) (now (room .entry)) r (now (workspace .exit)) (now (room .exit)) ⌝ }
+{
+    if workspace.len() < 8192 {
+        return unplayed(Verdict::SmallWorkspace, 0);
+    }
+    play_cleared(sheet, moves, room, &mut workspace[0..8192])
 }

@@ -1,0 +1,213 @@
+-- The loops that look for the wait that holds a cell, for the first open wait, and for the first move that does not hold a cell.
+use mathlib.Core.Path.{_≡_, refl, sym, ap, _∙_, subst}
+use Prim.Native.Nat.{ℕ, _+_, _-_, _*_, _<_, _≤_}
+use native.Mathlib.Omega.{arith}
+use mathlib.Core.Bool.{true, false}
+use mathlib.Core.Option.{some}
+use mathlib.Core.Logic.{inl, inr}
+use mathlib.Core.List.{List}
+use lib.ListN.{length}
+use Rattle.rules.specs.Tree.{Waits, noWaits, wait, Moves, noMoves, move}
+use Rattle.rules.specs.Fair.{inMoves, inMove}
+use Rattle.rules.specs.Answering.{PlaceIn, firstMove}
+use Rattle.rules.specs.declared.Board.{Board}
+use Rattle.nodes.specs.Nodes.{aWait, aMove, nodesOfWaits, nodesOfMoves}
+use Rattle.nodes.specs.Table.{countIn, endIn, Each, SomeNode, At}
+use Rattle.nodes.proofs.Trees.{move-first}
+use Rattle.answering.specs.Rows.{EndedOn}
+use Rattle.answering.specs.Marks.{Open, none-open, open-at, Opens, SomeOpen, SomeWaiting}
+use Rattle.answering.specs.Choosing.{touchedIn, nodeThere, without, Dodge, SomeDodge}
+use Rattle.answering.specs.declared.Found.the-variants as found
+use Rattle.answering.proofs.Marks.{First, open-skip, open-first, open-end, open-some}
+use Rattle.answering.proofs.Choosing.{Mapped, mapped, touched-here, touched-later, touched-none}
+
+-- the first of the waits ws that holds x is the first of those left, from node i on
+pub record WaitsLeft (b : Board) (t : List ℕ) (x i : ℕ) (ws : Waits) : Type 0 where
+  pub rest : Waits
+  pub marks : Open b t (endIn t 0) i rest
+  pub same : touchedIn x ws ≡ touchedIn x rest
+
+-- the loop's invariant
+pub record Looking (b : Board) (t : List ℕ) (x end i : ℕ) : Type 0 where
+  pub end-is : end ≡ endIn t 0
+  pub left : (ws : Waits) → Opens b t ws → WaitsLeft b t x i ws
+
+pub looking-starts : {b : Board} {t : List ℕ} {x end : ℕ} → end ≡ endIn t 0 → Looking b t x end 1
+looking-starts e = record { end-is = e; left = λ ws o. record { rest = ws; marks = o .marks; same = refl } }
+
+module _ {b : Board} {t : List ℕ} {x end i : ℕ} (l : Looking b t x end i) where
+  first-left : i < end → countIn t i ≡ 1 → (ws : Waits) (o : Opens b t ws) → First b t (endIn t 0) i (l .left ws o .rest)
+  first-left p m ws o = open-first (omega (arith, l .end-is)) (λ z. omega arith) (l .left ws o .marks)
+
+  -- within the table
+  pub looking-room : i < end → SomeOpen b t → 4 * i + 3 < length t
+  looking-room p s = omega (arith, l .end-is, s .are-open .within)
+
+  pub looking-wait : i < end → countIn t i ≡ 1 → SomeOpen b t → SomeNode (EndedOn b t) aWait i
+  looking-wait p m s = record { cell = 0; under = _; at = first-left p m (s .waits) (s .are-open) .here .at }
+
+  -- no open wait is at node i
+  pub looking-skip : i < end → (countIn t i ≡ 1 → ⊥) → Looking b t x end (i + 1)
+  looking-skip p m =
+      record {
+        end-is = l .end-is;
+        left = λ ws o.
+            let d = l .left ws o in
+            record { rest = d .rest; marks = open-skip (omega (arith, l .end-is)) m (d .marks); same = d .same };
+      }
+
+  -- the open wait at node i holds x
+  pub looking-found : i < end → countIn t i ≡ 1 → ((ms : Moves) → At (EndedOn b t) aWait i 0 (nodesOfMoves ms) → true ≡ inMoves ms x)
+      → (ws : Waits) → Opens b t ws → found.At i ≡ touchedIn x ws
+  looking-found p m f ws o =
+      let d = first-left p m ws o in
+      let e : i ≡ d .line - 2 = omega (arith, d .here .line-is) in
+      sym
+      (l .left ws o .same
+      ∙ ap (touchedIn x) (d .are)
+      ∙ touched-here x (d .line) (d .moves) (d .others) (sym (f (d .moves) (d .here .at)))
+      ∙ ap found.At (sym e))
+
+  -- it does not
+  pub looking-on : i < end → countIn t i ≡ 1 → SomeOpen b t → i < endIn t i
+  looking-on p m s = omega (arith, first-left p m (s .waits) (s .are-open) .here .at .here .end)
+
+  pub looking-again : i < end → countIn t i ≡ 1 → ((ms : Moves) → At (EndedOn b t) aWait i 0 (nodesOfMoves ms) → false ≡ inMoves ms x)
+      → Looking b t x end (endIn t i)
+  looking-again p m f =
+      record {
+        end-is = l .end-is;
+        left = λ ws o.
+            let d = first-left p m ws o in
+            record {
+              rest = d .others;
+              marks = rw (d .here .at .here .end) (d .rest);
+              same =
+                  l .left ws o .same
+                  ∙ ap (touchedIn x) (d .are)
+                  ∙ touched-later x (d .line) (d .moves) (d .others) (sym (f (d .moves) (d .here .at)));
+            };
+      }
+
+  -- no node is left
+  pub looking-done : end ≤ i → (ws : Waits) → Opens b t ws → found.Nothing ≡ touchedIn x ws
+  looking-done p ws o =
+      let d = l .left ws o in
+      sym (d .same ∙ ap (touchedIn x) (none-left (d .marks) (omega (arith, l .end-is))) ∙ touched-none x)
+    where
+      none-left : {b : Board} {t : List ℕ} {n i : ℕ} {ws : Waits} → Open b t n i ws → n ≤ i → ws ≡ noWaits
+      none-left (none-open q c) h = refl
+      none-left (open-at j q c o r) h = absurd (omega (arith, open-end r))
+
+-- the search for the first open wait
+pub record Nearing (t : List ℕ) (i : ℕ) : Type 0 where
+  pub marks : (b : Board) (line : ℕ) (ms : Moves) (ws : Waits) → Opens b t (wait line ms ws) → Open b t (endIn t 0) i (wait line ms ws)
+
+pub nearing-starts : (t : List ℕ) → Nearing t 1
+nearing-starts t = record { marks = λ b line ms ws o. o .marks }
+
+module _ {t : List ℕ} {i : ℕ} (l : Nearing t i) where
+  pub nearing-end : SomeWaiting t → i < endIn t 0
+  nearing-end s = open-some (l .marks _ _ _ _ (s .4))
+
+  pub nearing-room : SomeWaiting t → 4 * i + 3 < length t
+  nearing-room s = omega (arith, nearing-end s, s .4 .within)
+
+  pub nearing-again : countIn t i ≡ 0 → Nearing t (i + 1)
+  nearing-again z = record { marks = λ b line ms ws o. let m = l .marks b line ms ws o in open-skip (open-some m) (λ e. omega arith) m }
+
+  pub nearing-done : (countIn t i ≡ 0 → ⊥) → (b : Board) (line : ℕ) (ms : Moves) (ws : Waits) → Opens b t (wait line ms ws) → i ≡ line - 2
+  nearing-done z b line ms ws o =
+      let m = l .marks b line ms ws o in
+      let d = open-first (open-some m) z m in
+      let e : d .line ≡ line = cc (d .are) in
+      omega (arith, d .here .line-is)
+
+-- of a wait's moves those are left that are from node next on, and the first that does not hold x is among them
+pub record MovesLeft (b : Board) (t : List ℕ) (x next place : ℕ) : Type 0 where
+  pub rest : Moves
+  pub spot : PlaceIn rest
+  pub each : Each (EndedOn b t) aMove next (nodesOfMoves rest)
+  pub is-first : firstMove (without x) rest ≡ some spot
+  pub same : nodeThere next rest spot ≡ place
+
+-- the first of those left
+pub record MoveStep (b : Board) (t : List ℕ) (x next place : ℕ) : Type 0 where
+  pub cell : ℕ
+  pub waits : Waits
+  pub at : At (EndedOn b t) aMove next cell (nodesOfWaits waits)
+  pub here : inMove cell waits x ≡ false → next ≡ place
+  pub later : inMove cell waits x ≡ true → MovesLeft b t x (endIn t next) place
+
+-- of moves whose first holds x, or does not: the place of the first that does not
+module _ (x line c : ℕ) (ws : Waits) (ms : Moves) (p : PlaceIn (move line c ws ms)) (f : firstMove (without x) (move line c ws ms) ≡ some p) where
+  place-here : (next : ℕ) → inMove c ws x ≡ false → nodeThere next (move line c ws ms) p ≡ next
+  unfolding nodeThere
+  place-here next e =
+      let q : inl tt ≡ p = cc (rw e at f) in
+      subst (λ (y : PlaceIn (move line c ws ms)). nodeThere next (move line c ws ms) y ≡ next) q refl
+
+  place-later : inMove c ws x ≡ true → Mapped inr (firstMove (without x) ms) p
+  place-later e = mapped inr (firstMove (without x) ms) p (rw e at f)
+
+move-step : {b : Board} {t : List ℕ} {x next place : ℕ} → MovesLeft b t x next place → MoveStep b t x next place
+unfolding nodeThere
+move-step {b} {t} {x} {next} {place} l = go (l .rest) (l .spot) (l .each) (l .is-first) (l .same)
+  where
+    go : (ms : Moves) (p : PlaceIn ms) → Each (EndedOn b t) aMove next (nodesOfMoves ms) → firstMove (without x) ms ≡ some p → nodeThere next ms p ≡ place
+        → MoveStep b t x next place
+    go noMoves p e f s = absurd p
+    go (move line c ws ms) p e f s =
+        let m = move-first line c ws ms e in
+        record {
+          cell = c;
+          waits = ws;
+          at = m .0;
+          here = λ h. sym (place-here x line c ws ms p f next h) ∙ s;
+          later = λ h.
+              let q = place-later x line c ws ms p f h in
+              record {
+                rest = ms;
+                spot = q .from;
+                each = rw (m .0 .here .end) (m .1);
+                is-first = q .was;
+                same =
+                    ap (λ (z : ℕ). nodeThere z ms (q .from)) (m .0 .here .end)
+                    ∙ ap (λ (y : PlaceIn (move line c ws ms)). nodeThere next (move line c ws ms) y) (q .is)
+                    ∙ s;
+              };
+        }
+
+-- the loop's invariant, for the moves from node i on
+pub record Dodging (b : Board) (t : List ℕ) (i x next : ℕ) : Type 0 where
+  pub left : (ms : Moves) (p : PlaceIn ms) → Dodge b t i x ms p → MovesLeft b t x next (nodeThere i ms p)
+
+pub dodging-starts : (b : Board) (t : List ℕ) (i x : ℕ) → Dodging b t i x i
+dodging-starts b t i x =
+    record {
+      left = λ ms p d. record { rest = ms; spot = p; each = d .each; is-first = d .is-first; same = refl };
+    }
+
+module _ {b : Board} {t : List ℕ} {i x next : ℕ} (l : Dodging b t i x next) where
+  dodging-step : (s : SomeDodge b t i x) → MoveStep b t x next (nodeThere i (s .0) (s .1))
+  dodging-step s = move-step (l .left (s .0) (s .1) (s .2))
+
+  pub dodging-move : SomeDodge b t i x → SomeNode (EndedOn b t) aMove next
+  dodging-move s = record { cell = _; under = _; at = dodging-step s .at }
+
+  pub dodging-on : SomeDodge b t i x → next < endIn t next
+  dodging-on s = omega (arith, dodging-step s .at .here .end)
+
+  pub dodging-again : ((c : ℕ) (ws : Waits) → At (EndedOn b t) aMove next c (nodesOfWaits ws) → true ≡ inMove c ws x) → Dodging b t i x (endIn t next)
+  dodging-again f =
+      record {
+        left = λ ms p d.
+            let m = move-step (l .left ms p d) in
+            m .later (sym (f _ _ (m .at)));
+      }
+
+  pub dodging-done : ((c : ℕ) (ws : Waits) → At (EndedOn b t) aMove next c (nodesOfWaits ws) → false ≡ inMove c ws x)
+      → (ms : Moves) (p : PlaceIn ms) → Dodge b t i x ms p → next ≡ nodeThere i ms p
+  dodging-done f ms p d =
+      let m = move-step (l .left ms p d) in
+      m .here (sym (f _ _ (m .at)))

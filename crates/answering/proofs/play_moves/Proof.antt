@@ -1,0 +1,268 @@
+-- At the loop's head the game so far is that of the first i moves; the measure is how many are left.
+use borrow.Author.Needs.{needs, scaled-fits}
+use mathlib.Core.Path.{_≡_, refl, sym, ap, _∙_}
+use mathlib.Core.Logic.{⊎-elim}
+use mathlib.Core.Bool.{Bool, true, _||_}
+use Prim.Native.Nat.{ℕ, _+_, _-_, _*_, _^_, _<_}
+use native.Mathlib.Omega.{arith}
+use lib.Dec.{T}
+use lib.ListN.{length}
+use mir.Val.{Fits}
+use mir.Syntax.{w64}
+use Rattle.rules.specs.Board.{isCell}
+use Rattle.rules.specs.Tree.{stone}
+use Rattle.rules.specs.Words.{among}
+use Rattle.rules.specs.Reading.{got}
+use Rattle.cells.specs.Cells.{held}
+use Rattle.answering.specs.Rows.{Remarked}
+use Rattle.answering.specs.Playing.{Playable, refusalOf, checked}
+use Rattle.answering.proofs.Rows.{remarked-self, same-back, remarked-twice, at-ended}
+use Rattle.answering.proofs.Playing.{Going, playable-same, board-fits, root-ended, started-open, playing-starts, playing-stopped, playing-done, playing-cell, playing-asked, playing-rows, playing-answer, playing-again, cell-small, wrote, not-written, wrote-long}
+use Rattle.answering.proofs.play_moves.Statement.{statement}
+use Rattle.answering.proofs.play_moves.Tie as tie
+
+abbrev Inv-loop : tie.InvT-loop
+Inv-loop t₀ board player moves room₀ write root mine₀ theirs₀ i₀ t room mine theirs i =
+    Going board player moves t₀ room₀ write t room (mine .rows) (theirs .rows) i
+
+abbrev μ-loop : tie.MeasureT-loop
+μ-loop t₀ board player moves room₀ write root mine₀ theirs₀ i₀ t room mine theirs i = length moves - i
+
+-- places on the way: the entry, the loop's start, a turn, its refusals, its answer
+abbrev entry : tie.After-open-start Inv-loop μ-loop → tie.Start Inv-loop μ-loop
+entry c = c .before .before .before .before .before
+
+abbrev opened : tie.At-loop Inv-loop μ-loop → tie.After-open-start Inv-loop μ-loop
+opened c = c .before .before .before .before .before .before .before .before
+
+abbrev turn : tie.After-refused-move Inv-loop μ-loop → tie.In-loop Inv-loop μ-loop
+turn c = c .before .before .before
+
+abbrev tested : tie.After-enum-told Inv-loop μ-loop → tie.After-refused-move Inv-loop μ-loop
+tested c = c .before .before
+
+abbrev told : tie.After-answer-to Inv-loop μ-loop → tie.After-enum-told Inv-loop μ-loop
+told c = c .before .before
+
+abbrev replied : tie.After-with2 Inv-loop μ-loop → tie.After-answer-to Inv-loop μ-loop
+replied c = c .before .before .before .before
+
+open-start-requires : tie.Need-open-start-requires Inv-loop μ-loop
+open-start-requires c κs = root-ended (c .before .before .before .before .pre .0 .playable)
+
+-- the sheet that is held, after its root's waits are opened
+begun : (c : tie.After-open-start Inv-loop μ-loop) → Remarked (entry c .args .t .now) (c .open-start .last .0)
+begun c =
+    let h = entry c .pre .0 .playable in
+    started-open h (c .open-start .ensures _ _ (at-ended (h .root))) .0
+
+sheet-of : (c : tie.After-open-start Inv-loop μ-loop) → Playable (c .open-start .last .0) (entry c .args .board) (entry c .args .player) (entry c .pre .0 .sheet)
+sheet-of c = playable-same (begun c .rows) (entry c .pre .0 .playable)
+
+cell-at-requires : tie.Need-cell-at-requires Inv-loop μ-loop
+cell-at-requires c κs = sheet-of (c .before .before .before) .root .here .row .room
+
+empty-requires : tie.Need-empty-requires Inv-loop μ-loop
+empty-requires c κs = tt
+
+with-stone-requires : tie.Need-with-stone-requires Inv-loop μ-loop
+with-stone-requires c κs =
+    let h = sheet-of (c .before .before .before .before .before) in
+    (board-fits h, omega (arith, h .root .here .row .cell, h .root .here .on, c .before .cell-at .ensures))
+
+empty-requires-2 : tie.Need-empty-requires-2 Inv-loop μ-loop
+empty-requires-2 c κs = tt
+
+loop-holds : tie.Need-loop-holds Inv-loop μ-loop
+loop-holds c =
+    let o = c .before .before .before .before .before .before .before in
+    record {
+      turns = omega arith;
+      rows = remarked-self _;
+      long = refl;
+      plays = λ s h.
+          let k = playable-same (same-back (begun o .rows)) h in
+          let b = entry o .args .board in
+          playing-starts _ _ (started-open k (o .open-start .ensures _ _ (at-ended (k .root))) .1)
+          (λ x.
+          c .before .with-stone .ensures x
+          ∙ ap (λ (y : Bool). y || among (stone (c .before .before .before .cell-at .result)) x) (c .before .before .empty .ensures .1 b x)
+          ∙ ap (λ (y : ℕ). among (stone y) x) (c .before .before .before .cell-at .ensures ∙ h .root .here .row .cell))
+          (c .empty2 .ensures .1 b);
+    }
+
+one-further : (c : tie.In-loop Inv-loop μ-loop) → Fits w64 (c .before .loop .i + 1)
+one-further c = record { fits = omega arith }
+
+mul-wide : tie.Need-mul-wide Inv-loop μ-loop
+mul-wide c = search needs
+
+shared-slice-read-wide : tie.Need-shared-slice-read-wide Inv-loop μ-loop
+shared-slice-read-wide c = omega arith
+
+wide-requires : tie.Need-wide-requires Inv-loop μ-loop
+wide-requires c κs = tt
+
+add-place : tie.Need-add-place Inv-loop μ-loop
+add-place c = one-further (c .before .before)
+
+refused-move-requires : tie.Need-refused-move-requires Inv-loop μ-loop
+refused-move-requires c κs = board-fits (sheet-of (opened (c .before .before .before)))
+
+enum-known-refused : tie.Need-enum-known-refused Inv-loop μ-loop
+enum-known-refused c = search needs
+
+-- the table and the room are as long as they were
+table-long : (c : tie.At-loop Inv-loop μ-loop) → length (c .loop .t) ≡ length (entry (opened c) .args .t .now)
+table-long c = c .loop .inv .rows .rows .long ∙ begun (opened c) .rows .long
+
+same-length : tie.Need-same-length Inv-loop μ-loop
+same-length c = table-long (turn (c .before .before .before) .before)
+
+same-length-2 : tie.Need-same-length-2 Inv-loop μ-loop
+same-length-2 c = turn (c .before .before .before) .before .loop .inv .long
+
+returns : tie.Need-returns Inv-loop μ-loop
+returns c = λ s h.
+    let r = c .before .before .before in
+    let l = turn r .before in
+    let b = begun (opened l) in
+    let k = playable-same (b .rows) h in
+    playing-stopped k (l .loop .inv .plays s k) (turn r .loop-test .taken) _ (r .before .wide .ensures)
+    (sym (ap refusalOf (c .before .refused .given .1)) ∙ r .refused-move .ensures) (remarked-twice b (l .loop .inv .rows))
+
+enum-told : tie.Need-enum-told Inv-loop μ-loop
+enum-told c = search needs
+
+-- the move is not refused
+fine-move : (c : tie.After-enum-told Inv-loop μ-loop)
+    → got tt
+    ≡ checked (entry (opened (turn (tested c) .before)) .args .board) (entry (opened (turn (tested c) .before)) .args .player)
+    (held (entry (opened (turn (tested c) .before)) .args .board) (turn (tested c) .before .loop .mine .rows))
+    (held (entry (opened (turn (tested c) .before)) .args .board) (turn (tested c) .before .loop .theirs .rows))
+    (tested c .before .wide .result)
+fine-move c = sym (ap refusalOf (c .enum-told .given .1)) ∙ tested c .refused-move .ensures
+
+answer-to-requires : tie.Need-answer-to-requires Inv-loop μ-loop
+answer-to-requires c κs =
+    let l = turn (tested (c .before)) .before in
+    let h = sheet-of (opened l) in
+    let g = l .loop .inv .plays _ h in
+    let f = fine-move (c .before) in
+    (board-fits h, cell-small _ _ (board-fits h) (playing-cell h g _ f) .0, playing-asked h g _ f)
+
+-- the answer is a cell of the board
+answer-cell : (c : tie.After-answer-to Inv-loop μ-loop) → T (isCell (entry (opened (turn (tested (told c)) .before)) .args .board) (c .answer-to .result))
+answer-cell c =
+    let l = turn (tested (told c)) .before in
+    let h = sheet-of (opened l) in
+    playing-answer h (l .loop .inv .plays _ h) _ (fine-move (told c)) (c .answer-to .ensures)
+
+with-requires : tie.Need-with-requires Inv-loop μ-loop
+with-requires c κs =
+    let a = c .before .before in
+    (board-fits (sheet-of (opened (turn (tested (told a)) .before))), answer-cell a)
+
+with-requires-2 : tie.Need-with-requires-2 Inv-loop μ-loop
+with-requires-2 c κs =
+    let e = told (c .before .before .before) in
+    let l = turn (tested e) .before in
+    let h = sheet-of (opened l) in
+    (board-fits h, playing-cell h (l .loop .inv .plays _ h) _ (fine-move e))
+
+cast-room : tie.Need-cast-room Inv-loop μ-loop
+cast-room c =
+    let a = replied (c .before) in
+    let small = cell-small _ _ (board-fits (sheet-of (opened (turn (tested (told a)) .before)))) (answer-cell a) .1 in
+    record { fits = omega (arith, small) }
+
+-- there is room for the answer
+room-there : (c : tie.In-loop Inv-loop μ-loop) → entry (opened (c .before)) .args .write ≡ true → c .before .loop .i < length (c .before .loop .room)
+room-there c w = omega (arith, c .loop-test .taken, entry (opened (c .before)) .pre .1 w, c .before .loop .inv .long)
+
+room-small : (c : tie.Start Inv-loop μ-loop) → length (c .args .room .now) * 4 < 2 ^ 63
+room-small c = search needs
+
+slice-write-room : tie.Need-slice-write-room Inv-loop μ-loop
+slice-write-room c = room-there (turn (tested (told (replied (c .before))))) (c .if1 .taken)
+
+mul-room : tie.Need-mul-room Inv-loop μ-loop
+mul-room c =
+    let l = turn (tested (told (replied (c .before)))) .before in
+    scaled-fits _ (length (l .loop .room)) 4 (slice-write-room c) (rw (l .loop .inv .long) (room-small (entry (opened l))))
+
+add-i : tie.Need-add-i Inv-loop μ-loop
+add-i c = one-further (turn (tested (told (replied (c .before)))))
+
+loop-less : tie.Need-loop-less Inv-loop μ-loop
+loop-less c = omega arith
+
+loop-again : tie.Need-loop-again Inv-loop μ-loop
+loop-again c =
+    let a = replied (c .before) in
+    let f = fine-move (told a) in
+    let r = tested (told a) in
+    let q = turn r in
+    let l = q .before in
+    let h = sheet-of (opened l) in
+    let put = ⊎-elim (λ w. wrote (w .0 .taken) (room-there q (w .0 .taken)) (w .1)) (λ w. not-written (w .0 .left) (w .1)) (c .if1 .came) in
+    record {
+      turns = omega (arith, q .loop-test .taken);
+      rows = remarked-twice (l .loop .inv .rows) (playing-rows h (l .loop .inv .plays _ h) _ f (a .answer-to .ensures));
+      long = wrote-long put ∙ l .loop .inv .long;
+      plays = λ s k.
+          playing-again k (l .loop .inv .plays s k) _ f (a .answer-to .ensures) (q .loop-test .taken) (r .before .wide .ensures) (l .loop .inv .long)
+          (c .before .before .with .ensures) (c .before .with2 .ensures) put;
+    }
+
+joins-requires : tie.Need-joins-requires Inv-loop μ-loop
+joins-requires c κs = board-fits (sheet-of (opened (c .before)))
+
+same-length-3 : tie.Need-same-length-3 Inv-loop μ-loop
+same-length-3 c = table-long (c .before .before)
+
+same-length-4 : tie.Need-same-length-4 Inv-loop μ-loop
+same-length-4 c = c .before .before .loop .inv .long
+
+returns-2 : tie.Need-returns-2 Inv-loop μ-loop
+returns-2 c = λ s h.
+    let l = c .before .before in
+    let b = begun (opened l) in
+    let k = playable-same (b .rows) h in
+    playing-done k (l .loop .inv .plays s k) (c .before .loop-test .left) (remarked-twice b (l .loop .inv .rows)) (c .joins .ensures)
+
+pub play-moves-spec : {M : Type 1} → statement M
+play-moves-spec =
+    tie.close
+    (tie.spec
+    Inv-loop
+    μ-loop
+    open-start-requires
+    cell-at-requires
+    empty-requires
+    with-stone-requires
+    empty-requires-2
+    loop-holds
+    mul-wide
+    shared-slice-read-wide
+    wide-requires
+    add-place
+    refused-move-requires
+    enum-known-refused
+    same-length
+    same-length-2
+    returns
+    enum-told
+    answer-to-requires
+    with-requires
+    with-requires-2
+    cast-room
+    mul-room
+    slice-write-room
+    add-i
+    loop-less
+    loop-again
+    joins-requires
+    same-length-3
+    same-length-4
+    returns-2)

@@ -1,0 +1,71 @@
+-- Where the table has the open wait that holds a cell, and the chosen wait and move.
+use mathlib.Core.Path.{_≡_}
+use mathlib.Core.Bool.{Bool, not}
+use mathlib.Core.Logic.{inl, inr}
+use mathlib.Core.Option.{some}
+use Prim.Native.Nat.{ℕ, _+_, _-_}
+use mathlib.Core.List.{List}
+use Rattle.rules.specs.Words.{if_then_else_}
+use Rattle.rules.specs.Tree.{Waits, noWaits, wait, Moves, noMoves, move}
+use Rattle.rules.specs.Fair.{inMoves, inMove}
+use Rattle.rules.specs.Answering.{PlaceIn, Choice, taken, opened, firstMove, answer}
+use Rattle.rules.specs.declared.Board.{Board}
+use Rattle.nodes.specs.Nodes.{aMove, size, nodesOfWaits, nodesOfMoves}
+use Rattle.nodes.specs.Table.{Each}
+use Rattle.answering.specs.Rows.{EndedOn, Remarked}
+use Rattle.answering.specs.Marks.{Opens}
+use Rattle.answering.specs.declared.Found.{Found}
+use Rattle.answering.specs.declared.Found.the-variants as found
+
+-- the node of the first of the waits that holds x
+unfoldable pub touchedIn : ℕ → Waits → Found
+touchedIn x noWaits = found.Nothing
+touchedIn x (wait line ms ws) = if inMoves ms x then found.At (line - 2) else touchedIn x ws
+
+-- the node of the move at a place, where the first of the moves is at node i
+unfoldable pub nodeThere : ℕ → (ms : Moves) → PlaceIn ms → ℕ
+nodeThere i noMoves p = absurd p
+nodeThere i (move line c ws ms) (inl u) = i
+nodeThere i (move line c ws ms) (inr p) = nodeThere (i + 1 + size (nodesOfWaits ws)) ms p
+
+-- the nodes of the chosen wait, and of the chosen move
+unfoldable pub waitNode : (ws : Waits) → Choice ws → ℕ
+waitNode noWaits k = absurd k
+waitNode (wait line ms ws) (inl p) = line - 2
+waitNode (wait line ms ws) (inr k) = waitNode ws k
+
+unfoldable pub moveNode : (ws : Waits) → Choice ws → ℕ
+moveNode noWaits k = absurd k
+moveNode (wait line ms ws) (inl p) = nodeThere (line - 2 + 1) ms p
+moveNode (wait line ms ws) (inr k) = moveNode ws k
+
+-- a move whose cells do not hold x
+abbrev pub without : ℕ → ℕ → Waits → Bool
+without x c us = not (inMove c us x)
+
+-- moves stand from node i on, and the first that does not hold x is at a place
+pub record Dodge (b : Board) (t : List ℕ) (i x : ℕ) (ms : Moves) (p : PlaceIn ms) : Type 0 where
+  pub each : Each (EndedOn b t) aMove i (nodesOfMoves ms)
+  pub is-first : firstMove (without x) ms ≡ some p
+
+abbrev pub SomeDodge : Board → List ℕ → (i x : ℕ) → Type 0
+SomeDodge b t i x = (ms : Moves) × (p : PlaceIn ms) × Dodge b t i x ms p
+
+-- these waits are open, and the rule answers x with this choice
+pub record Asked (b : Board) (t : List ℕ) (x : ℕ) (ws : Waits) (k : Choice ws) : Type 0 where
+  pub are-open : Opens b t ws
+  pub is-answer : answer x ws ≡ some k
+
+abbrev pub SomeAsked : Board → List ℕ → ℕ → Type 0
+SomeAsked b t x = (ws : Waits) × (k : Choice ws) × Asked b t x ws k
+
+-- the nodes are those of the choice
+pub record Chosen (ws : Waits) (k : Choice ws) (w m : ℕ) : Type 0 where
+  pub wait-is : w ≡ waitNode ws k
+  pub move-is : m ≡ moveNode ws k
+
+-- the answer is the chosen cell; the chosen wait is closed, and the waits under the chosen move are open
+pub record Answered (b : Board) (t : List ℕ) (ws : Waits) (k : Choice ws) (r : ℕ) (v : List ℕ) : Type 0 where
+  pub cell-is : r ≡ taken ws k
+  pub are-open : Opens b v (opened ws k)
+  pub rows : Remarked t v

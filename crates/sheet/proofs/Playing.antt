@@ -1,0 +1,120 @@
+-- Play's checks one after another, and what it replies.
+use mathlib.Core.Path.{_≡_, refl, sym, ap, _∙_, subst, subst⁻¹}
+use mathlib.Core.Bool.{Bool, true, false}
+use mathlib.Core.List.{List, [], _∷_, _++_}
+use Prim.Native.Nat.{ℕ, _≤_, _<_}
+use native.Mathlib.Omega.{arith}
+use lib.Dec.{ltb}
+use lib.ListN.{length, drop, replicate}
+use borrow.Author.Tests.{lt-ltb, le-ltb}
+use Rattle.rules.specs.Sizes.{leastWorkspace}
+use Rattle.rules.specs.Text.{Bytes}
+use Rattle.rules.specs.Tree.{Sheet}
+use Rattle.rules.specs.Reading.{Result, refused, got}
+use Rattle.rules.specs.Answering.{start}
+use Rattle.rules.specs.Entries.{_>>=_, refuseIf, read, accepted, rounds, PlayReply, refusedPlay, playedOut, playOn, play, playShown, workspaceAfter, roomAfter, PlayKept}
+use Rattle.rules.specs.declared.Board.{Board}
+use Rattle.rules.specs.declared.Player.{Player}
+use Rattle.rules.specs.declared.Played.{Played}
+use Rattle.rules.specs.declared.Verdict.{Verdict}
+use Rattle.rules.specs.declared.Verdict.the-variants.{Done, SmallWorkspace, ShortRoom}
+use Rattle.answering.specs.Playing.{Playable, PlaysMoves, asPlayed}
+use Rattle.answering.specs.declared.PlayedOut.{PlayedOut}
+use Rattle.answering.specs.declared.PlayedOut.the-variants as out
+use Rattle.answering.proofs.Held.{held-playable, room-kept, was-stopped, entry-reply, entry-played}
+use Rattle.sheet.specs.Kept.{readText, SheetHeld, checked, IsAccepted, AcceptReply}
+use Rattle.sheet.specs.Playing.{PlayedKept}
+use Rattle.sheet.specs.declared.FairRead.{FairRead}
+use Rattle.sheet.specs.declared.FairRead.the-variants as FairRead
+use Rattle.sheet.proofs.Accepting.{text-accepted}
+
+-- a refusal gives no answers, and leaves the room as it was
+pub played-refused : (o : PlayReply) (v : Verdict) (place : ℕ) (room : List ℕ) (r : Played) → o ≡ refusedPlay v place → r ≡ playShown (refusedPlay v place) → PlayedKept o room r room
+unfolding roomAfter refusedPlay
+played-refused o v place room r e q = record { reply-is = q ∙ ap playShown (sym e); room-is = ap (λ (z : PlayReply). roomAfter (z .answers) room) (sym e) }
+
+-- a reply that is the same as another
+pub played-as : {o o′ : PlayReply} {room room′ : List ℕ} {r : Played} → o ≡ o′ → PlayedKept o′ room r room′ → PlayedKept o room r room′
+played-as {o} {o′} {room} {room′} {r} e k = subst⁻¹ (λ (z : PlayReply). PlayedKept z room r room′) e k
+
+-- a first run, without writing
+module _ (s : Sheet) {t moves room : List ℕ} {tried : PlayedOut} {t′ room′ : List ℕ} (k : PlaysMoves s t moves room false tried t′ room′) where
+  pub table-stopped : (v : Verdict) (place : ℕ) (r : Played) → tried ≡ out.Stopped v place → r ≡ playShown (refusedPlay v place) → PlayedKept (playedOut s (rounds s (start s) 1 moves)) room r room′
+  unfolding playedOut
+  table-stopped v place r e q =
+      subst⁻¹ (PlayedKept (playedOut s (rounds s (start s) 1 moves)) room r) (room-kept k refl)
+      (played-refused _ v place room r (ap (playedOut s) (was-stopped k v place e)) q)
+
+  -- and a second one, that writes
+  pub table-played : {last : PlayedOut} {t″ room″ : List ℕ} → PlaysMoves s t′ moves room′ true last t″ room″ → (n : ℕ) (over : Bool) (r : Played) → tried ≡ out.Played n over
+      → r ≡ record { verdict = Done; place = 0; answers = n; over = over } → PlayedKept (playedOut s (rounds s (start s) 1 moves)) room r room″
+  table-played {last} {t″} {room″} l n over r e q =
+      record {
+        reply-is = q ∙ sym (ap asPlayed e) ∙ entry-reply k;
+        room-is = entry-played l refl n over (l .reply ∙ sym (k .reply) ∙ e) ∙ ap (roomAfter (playedOut s (rounds s (start s) 1 moves) .answers)) (room-kept k refl);
+      }
+
+-- of an accepted text, or one that is refused
+module _ (t : Bytes) (moves : List ℕ) (room : ℕ) where
+  play-at : (w : ℕ) (r : Result Sheet) → accepted w t ≡ r → play w t moves room ≡ playOn moves (r >>= λ s. refuseIf (ltb room (length moves)) ShortRoom >>= λ u. got s)
+  unfolding play
+  play-at w r e = rw e
+
+  pub play-same : (w : ℕ) → leastWorkspace ≤ w → play leastWorkspace t moves room ≡ play w t moves room
+  play-same w h = play-at leastWorkspace _ (text-accepted leastWorkspace t (omega arith)) ∙ sym (play-at w _ (text-accepted w t h))
+
+  pub play-refused : (w : ℕ) (v : Verdict) → accepted w t ≡ refused v → play w t moves room ≡ refusedPlay v 0
+  unfolding playOn _>>=_
+  play-refused w v e = play-at w (refused v) e
+
+  module _ (w : ℕ) (s : Sheet) (e : accepted w t ≡ got s) where
+    pub play-no-room : room < length moves → play w t moves room ≡ refusedPlay ShortRoom 0
+    unfolding playOn refuseIf _>>=_
+    play-no-room h = play-at w (got s) e ∙ rw (lt-ltb room (length moves) h)
+
+    pub play-rounds : length moves ≤ room → play w t moves room ≡ playedOut s (rounds s (start s) 1 moves)
+    unfolding playOn refuseIf _>>=_
+    play-rounds h = play-at w (got s) e ∙ rw (le-ltb room (length moves) h)
+
+-- a text that was read
+unread : (t : Bytes) (v : Verdict) → readText t ≡ refused v → accepted leastWorkspace t ≡ refused v
+unfolding _>>=_
+unread t v e = text-accepted leastWorkspace t (omega arith) ∙ ap (λ (r : Result Sheet). r >>= checked) e
+
+pub play-unread : (t : Bytes) (moves : List ℕ) (room : ℕ) (v : Verdict) → readText t ≡ refused v → play leastWorkspace t moves room ≡ refusedPlay v 0
+play-unread t moves room v e = play-refused t moves room leastWorkspace v (unread t v e)
+
+module _ (t : Bytes) {table : List ℕ} {b : Board} {p : Player} (h : SheetHeld t table b p) where
+  of-checked : (r : Result Sheet) → checked (h .sheet) ≡ r → accepted leastWorkspace t ≡ r
+  unfolding _>>=_
+  of-checked r e = text-accepted leastWorkspace t (omega arith) ∙ ap (λ (z : Result Sheet). z >>= checked) (h .reads) ∙ e
+
+  module _ (a : FairRead) (k : AcceptReply (h .sheet) a) where
+    pub held-refused : (v : Verdict) → a ≡ FairRead.Refused v → accepted leastWorkspace t ≡ refused v
+    held-refused v e = of-checked (refused v) (subst (AcceptReply (h .sheet)) e k)
+
+    pub held-accepted : (count : ℕ) → a ≡ FairRead.Got count → accepted leastWorkspace t ≡ got (h .sheet)
+    held-accepted count e = let i : IsAccepted (h .sheet) count = subst (AcceptReply (h .sheet)) e k in of-checked (got (h .sheet)) (i .passes)
+
+    pub playable : (count : ℕ) → a ≡ FairRead.Got count → Playable table b p (h .sheet)
+    playable count e = held-playable leastWorkspace t (h .held) (h .for) (held-accepted count e)
+
+-- play itself
+pub play-short : (ws : List ℕ) (t : Bytes) (moves room : List ℕ) (r : Played) → length ws < leastWorkspace → r ≡ playShown (refusedPlay SmallWorkspace 0)
+    → PlayKept ws t moves room r ws room
+play-short ws t moves room r h e =
+    let q = play-refused t moves (length room) (length ws) SmallWorkspace small in
+    let k = played-refused (play (length ws) t moves (length room)) SmallWorkspace 0 room r q e in
+    record { reply = k .reply-is; memory = unfold workspaceAfter in sym (rw (lt-ltb (length ws) leastWorkspace h)); answers = k .room-is }
+  where
+    small : accepted (length ws) t ≡ refused SmallWorkspace
+    small = unfold accepted read refuseIf _>>=_ in rw (lt-ltb (length ws) leastWorkspace h)
+
+pub play-long : (ws : List ℕ) (t : Bytes) (moves room : List ℕ) (r : Played) (after room′ : List ℕ) → leastWorkspace ≤ length ws
+    → PlayedKept (play leastWorkspace t moves (length room)) room r room′ → after ≡ replicate leastWorkspace 0 ++ drop leastWorkspace ws
+    → PlayKept ws t moves room r after room′
+unfolding workspaceAfter
+play-long ws t moves room r after room′ h k m =
+    let e = play-same t moves (length room) (length ws) h in
+    let same = played-as (sym e) k in
+    record { reply = same .reply-is; memory = m ∙ sym (rw (le-ltb (length ws) leastWorkspace h)); answers = same .room-is }
