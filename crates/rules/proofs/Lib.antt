@@ -7,6 +7,7 @@ pub mod Reading
 pub mod WellRead
 pub mod Smallest
 pub mod Given
+pub mod Refusals
 pub mod Opening
 pub mod Answering
 pub mod EachOutcome

@@ -15,6 +15,7 @@ use Rattle.rules.specs.Reading.{refused, got, readSheet}
 use Rattle.rules.specs.Fair.{Fault, inWaits, holding, inEvery, notApart, notElusive}
 use Rattle.rules.specs.Outcomes.{outcomes, outcomeCount}
 use Rattle.rules.specs.Joining.{Joins}
+use Rattle.rules.specs.Verdict.{told}
 use Rattle.rules.specs.declared.Board.{Board}
 use Rattle.rules.specs.declared.Verdict.{Verdict}
 use Rattle.rules.specs.declared.Verdict.the-variants.{Accepted, SmallWorkspace, LongText, NotApart, NotElusive, TooManyOutcomes, NotJoined}
@@ -122,3 +123,16 @@ pub data Given (workspace : ℕ) (t : Bytes) : Verdict → Type 0 where
       → Given workspace t TooManyOutcomes
   as-not-joined : (s : Sheet) (i : ℕ) → WithinSizes workspace t → readSheet t ≡ got s → AllApart s → AllElusive s → outcomeCount s ≤ mostOutcomes
       → IsFirstUnjoined s i → Given workspace t (NotJoined i)
+
+-- A refusal of the reading, by its number
+pub record OfReading (v : Verdict) : Type 0 where
+  pub least : 3 ≤ told v .number
+  pub most : told v .number ≤ 9
+
+-- A sheet by document 01, with its counts
+pub record AcceptedAs (workspace : ℕ) (t : Bytes) (moves waits count : ℕ) : Type 0 where
+  pub sheet : Sheet
+  pub is-sheet : IsSheet workspace t sheet
+  pub moves-are : moves ≡ moveCount sheet
+  pub waits-are : waits ≡ waitCount sheet
+  pub outcomes-are : count ≡ outcomeCount sheet

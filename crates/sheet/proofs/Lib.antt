@@ -5,3 +5,4 @@ pub mod Reading
 pub mod Accepting
 pub mod Naming
 pub mod Playing
+pub mod Promise
