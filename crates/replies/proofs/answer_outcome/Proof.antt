@@ -1,0 +1,94 @@
+-- `replies::answer_outcome` meets its contract: what is listed fits the room.
+use mathlib.Core.Path.{sym}
+use native.Mathlib.Omega.{arith}
+use lib.Seq.{length-take-le}
+use borrow.Author.Tests.{not-false}
+use Rattle.replies.proofs.Replying.{take-short}
+use borrow.Author.Needs.{needs}
+use Rattle.replies.proofs.answer_outcome.Statement.{statement}
+use Rattle.replies.proofs.answer_outcome.Tie as tie
+
+outcome-requires : tie.Need-outcome-requires
+outcome-requires c κs = search needs
+
+tell-requires : tie.Need-tell-requires
+tell-requires c κs = search needs
+
+workspace-right-requires : tie.Need-workspace-right-requires
+workspace-right-requires c κs = search needs
+
+say-memory-requires : tie.Need-say-memory-requires
+say-memory-requires c κs = search needs
+
+same-length : tie.Need-same-length
+same-length c = search needs
+
+same-length-2 : tie.Need-same-length-2
+same-length-2 c = search needs
+
+returns : tie.Need-returns
+returns c = search needs
+
+room-right-requires : tie.Need-room-right-requires
+room-right-requires c κs = search needs
+
+say-memory-requires-2 : tie.Need-say-memory-requires-2
+say-memory-requires-2 c κs = search needs
+
+same-length-3 : tie.Need-same-length-3
+same-length-3 c = search needs
+
+same-length-4 : tie.Need-same-length-4
+same-length-4 c = search needs
+
+returns-2 : tie.Need-returns-2
+returns-2 c = search needs
+
+narrow-requires : tie.Need-narrow-requires
+narrow-requires c κs = search needs
+
+slice-aggregate-print-reply : tie.Need-slice-aggregate-print-reply
+slice-aggregate-print-reply c = search needs
+
+slice-reshare-prefix-print-reply : tie.Need-slice-reshare-prefix-print-reply
+slice-reshare-prefix-print-reply c = c .before .before .before .room-right .ensures (not-false _ (c .before .before .if2 .left))
+
+slice-aggregate-print-reply-2 : tie.Need-slice-aggregate-print-reply-2
+slice-aggregate-print-reply-2 c = sym (length-take-le _ _ (c .before .before .before .before .room-right .ensures (not-false _ (c .before .before .before .if2 .left))))
+
+print-reply-requires : tie.Need-print-reply-requires
+print-reply-requires c κs = (search needs, take-short (c .before .before .before .before .before .before .before .before .before .before .before .before .before .before .outcome .result .cells) 1000 _ (omega (arith, c .before .before .before .before .room-right .ensures (not-false _ (c .before .before .before .if2 .left)))))
+
+same-length-5 : tie.Need-same-length-5
+same-length-5 c = search needs
+
+same-length-6 : tie.Need-same-length-6
+same-length-6 c = search needs
+
+returns-3 : tie.Need-returns-3
+returns-3 c = search needs
+
+pub answer-outcome-spec : {M : Type 1} → statement M
+answer-outcome-spec =
+    tie.close
+    (tie.spec
+    outcome-requires
+    tell-requires
+    workspace-right-requires
+    say-memory-requires
+    same-length
+    same-length-2
+    returns
+    room-right-requires
+    say-memory-requires-2
+    same-length-3
+    same-length-4
+    returns-2
+    narrow-requires
+    slice-aggregate-print-reply
+    slice-reshare-prefix-print-reply
+    slice-aggregate-print-reply-2
+    print-reply-requires
+    same-length-5
+    same-length-6
+    returns-3)

@@ -1,0 +1,406 @@
+// replies: the program. It answers requests about sheets from standard input, one line for each, until the input ends. It sees sheet,
+// report and requests.
+ghost use mathlib.Core.Path.{_≡_};
+ghost use mathlib.Core.Bool.{true};
+ghost use Prim.Native.Nat.{_+_, _*_, _≤_};
+ghost use lib.ListN.{length};
+ghost use Rattle.replies.specs.Window.{Within, TakenWithin, LineWithin, TextWithin};
+ghost use Rattle.replies.specs.Answered.{AnsweredWithin};
+ghost use mathlib.Core.List.{_++_};
+ghost use Rattle.report.specs.Line.{lineOf};
+ghost use Rattle.report.specs.Writing.{Printed};
+ghost use Rattle.requests.specs.Request.{RequestOf};
+use libc::STDIN_FILENO;
+use libc::STDOUT_FILENO;
+use report::report;
+use report::tell;
+use report::write_byte;
+use report::write_fields;
+use report::write_number;
+use requests::Ask;
+use requests::Request;
+use requests::RequestRead;
+use requests::read_request;
+use sheet::judge;
+use sheet::outcome;
+use sheet::play;
+
+// What stands in every place of the memory that is lent, so that each change shows: no number of a sheet is so large.
+const FILLING: u32 = 4294967295;
+
+// The bytes of the buffer that were read and not yet taken: from start up to end.
+struct Window {
+    start: usize,
+    end: usize,
+}
+
+// The next byte of the input, and the window after it.
+enum Taken {
+    Byte { byte: u8, window: Window },
+    End,
+}
+
+// Reads from standard input into the buffer once, and returns how many bytes came.
+fn refill(buffer: &mut [u8]) -> usize
+    ensures { λ r. ⌜ r ≤ length (now (buffer .exit)) ⌝ }
+{
+    let got = libc::read(STDIN_FILENO, buffer);
+    io::count(got, buffer)
+}
+
+// Takes one byte of the input.
+fn take_byte(buffer: &mut [u8], window: Window) -> Taken
+    requires { ⌜ Within (now buffer) window ⌝ }
+    ensures { λ r. ⌜ TakenWithin (now (buffer .exit)) r ⌝ }
+{
+    let start = window.start;
+    let end = window.end;
+    if start < end {
+        return Taken::Byte {
+            byte: buffer[start],
+            window: Window {
+                start: start + 1,
+                end,
+            },
+        };
+    }
+    let got = refill(buffer);
+    if got == 0 {
+        return Taken::End;
+    }
+    Taken::Byte {
+        byte: buffer[0],
+        window: Window { start: 1, end: got },
+    }
+}
+
+// A line of the input: its length without the line feed; or the input ends before the line; or it ends in the line, or the line is too long.
+enum Line {
+    Got { length: usize, window: Window },
+    End,
+    Malformed,
+}
+
+// Takes a line of the input.
+fn take_line(buffer: &mut [u8], window: Window, line: &mut [u8]) -> Line
+    requires { ⌜ Within (now buffer) window ⌝ }
+    ensures { λ r. ⌜ LineWithin (now (buffer .exit)) (now (line .exit)) r ⌝ }
+{
+    let mut rest = window;
+    let mut n = 0;
+    while n < line.len() {
+        let Taken::Byte { byte, window: next } = take_byte(buffer, rest) else {
+            if n == 0 {
+                return Line::End;
+            }
+            return Line::Malformed;
+        };
+        if byte == b'\n' {
+            return Line::Got {
+                length: n,
+                window: next,
+            };
+        }
+        line[n] = byte;
+        rest = next;
+        n += 1;
+    }
+    Line::Malformed
+}
+
+// A sheet's text as it was taken from the input: the window after it; or the input ends in it.
+enum Text {
+    Got { window: Window },
+    Short,
+}
+
+// Takes as many bytes of the input as the text has room for.
+fn take_text(buffer: &mut [u8], window: Window, text: &mut [u8]) -> Text
+    requires { ⌜ Within (now buffer) window ⌝ }
+    ensures { λ r. ⌜ TextWithin (now (buffer .exit)) r ⌝ }
+{
+    let mut rest = window;
+    let mut n = 0;
+    while n < text.len() {
+        let Taken::Byte { byte, window: next } = take_byte(buffer, rest) else {
+            return Text::Short;
+        };
+        text[n] = byte;
+        rest = next;
+        n += 1;
+    }
+    Text::Got { window: rest }
+}
+
+// Whether the memory from a place on is as it was lent.
+fn kept(memory: &[u32], from: usize) -> bool {
+    let mut i = from;
+    while i < memory.len() {
+        if memory[i] != FILLING {
+            return false;
+        }
+        i += 1;
+    }
+    true
+}
+
+// Whether the first n numbers of the memory are 0.
+fn cleared(memory: &[u32], n: usize) -> bool {
+    if memory.len() < n {
+        return false;
+    }
+    for i in 0..n {
+        if memory[i] != 0 {
+            return false;
+        }
+    }
+    true
+}
+
+// Whether the workspace is what document 01 lays down after a reply with the number.
+fn workspace_right(workspace: &[u32], number: u32) -> bool {
+    if number == 1 {
+        return kept(workspace, 0);
+    }
+    if !cleared(workspace, 8192) {
+        return false;
+    }
+    kept(workspace, 8192)
+}
+
+// Whether the room is what document 01 lays down after a reply with the number and so many answers or cells.
+fn room_right(room: &[u32], number: u32, written: usize) -> bool
+    ensures { λ r. ⌜ (r ≡ true → written ≤ length (now (room .entry))) ⌝ }
+{
+    if room.len() < written {
+        return false;
+    }
+    if number == 0 {
+        return kept(room, written);
+    }
+    kept(room, 0)
+}
+
+// A count as a number of 32 bits; no count of a reply is larger.
+fn narrow(n: usize) -> u32 {
+    if 4294967295 < n {
+        return 4294967295;
+    }
+    n as u32
+}
+
+// Writes a reply's line into the first bytes of the room, and returns its length.
+fn write_reply(room: &mut [u8], first: u32, others: &[u32], listed: &[u32]) -> usize
+    requires { ⌜ 11 * length (now others) + 11 * length (now listed) + 11 ≤ length (now room) ⌝ }
+    ensures { λ r. ⌜ Printed (lineOf first (now (others .entry) ++ now (listed .entry))) (now (room .entry)) (now (room .exit)) r ⌝ }
+{
+    let at = write_number(room, 0, first);
+    let middle = write_fields(room, at, others);
+    let last = write_fields(room, middle, listed);
+    write_byte(room, last, b'\n')
+}
+
+// Writes the first n bytes of the room to standard output.
+fn print(room: &[u8], n: usize)
+    requires { ⌜ n ≤ length (now room) ⌝ }
+{
+    io::write_all(STDOUT_FILENO, &room[..n]);
+}
+
+// Prints a reply's line: the verdict's number, the six or four further numbers, and the answers or cells.
+fn print_reply(first: u32, others: &[u32], listed: &[u32])
+    requires { ⌜ (length (now others) ≤ 6) × (length (now listed) ≤ 1000) ⌝ }
+{
+    let mut room = [0u8; 11077];
+    let n = write_reply(&mut room, first, others, listed);
+    print(&room, n);
+}
+
+// Says that the memory that was lent is not what document 01 lays down.
+fn say_memory() {
+    io::write_all(STDOUT_FILENO, b"memory\n");
+}
+
+// Says that the request is malformed.
+fn say_request() {
+    io::write_all(STDOUT_FILENO, b"request\n");
+}
+
+// Judges the sheet, and prints the reply.
+fn answer_judge(text: &[u8], workspace: &mut [u32]) {
+    let verdict = judge(text, workspace);
+    let told = tell(verdict);
+    if !workspace_right(workspace, told.number) {
+        say_memory();
+        return;
+    }
+    let mut room = [0u8; 77];
+    let n = report(&mut room, verdict);
+    print(&room, n);
+}
+
+// Plays the cells on the sheet, and prints the reply.
+fn answer_play(text: &[u8], moves: &[u32], room: &mut [u32], workspace: &mut [u32])
+    requires { ⌜ length (now room) ≤ 1000 ⌝ }
+{
+    let played = play(text, moves, room, workspace);
+    let verdict = played.verdict;
+    let told = tell(verdict);
+    let answers = played.answers;
+    if !workspace_right(workspace, told.number) {
+        say_memory();
+        return;
+    }
+    if !room_right(room, told.number, answers) {
+        say_memory();
+        return;
+    }
+    let place = narrow(played.place);
+    let over = played.over as u32;
+    let others = [
+        told.line,
+        told.cell,
+        told.index,
+        place,
+        narrow(answers),
+        over,
+    ];
+    print_reply(told.number, &others, &room[..answers]);
+}
+
+// Names the outcome of the sheet with a number, and prints the reply.
+fn answer_outcome(text: &[u8], number: u32, room: &mut [u32], workspace: &mut [u32])
+    requires { ⌜ length (now room) ≤ 1000 ⌝ }
+{
+    let named = outcome(text, number, room, workspace);
+    let verdict = named.verdict;
+    let told = tell(verdict);
+    let cells = named.cells;
+    if !workspace_right(workspace, told.number) {
+        say_memory();
+        return;
+    }
+    if !room_right(room, told.number, cells) {
+        say_memory();
+        return;
+    }
+    let others = [told.line, told.cell, told.index, narrow(cells)];
+    print_reply(told.number, &others, &room[..cells]);
+}
+
+// Answers a request whose sheet was taken, with as much memory lent as it says.
+fn answer(text: &[u8], request: Request, numbers: &[u32])
+    requires { ⌜ (RequestOf (now numbers) request) × (length (now numbers) ≡ 403) ⌝ }
+{
+    let ask = request.ask;
+    let count = request.count;
+    let work = request.work;
+    let lent = request.room;
+    let mut workspace = [FILLING; 9000];
+    let mut room = [FILLING; 1000];
+    match ask {
+        Ask::Judge => answer_judge(text, &mut workspace[..work]),
+        Ask::Play => answer_play(
+            text,
+            &numbers[3..count],
+            &mut room[..lent],
+            &mut workspace[..work],
+        ),
+        Ask::Outcome => answer_outcome(text, numbers[3], &mut room[..lent], &mut workspace[..work]),
+    }
+}
+
+// Whether requests go on, and with which window.
+enum Answered {
+    On { window: Window },
+    Last,
+}
+
+// Takes the sheet of a request into the text, and answers it.
+fn answer_text(
+    buffer: &mut [u8],
+    window: Window,
+    request: Request,
+    numbers: &[u32],
+    text: &mut [u8],
+) -> Answered
+    requires { ⌜ (Within (now buffer) window) × (RequestOf (now numbers) request) × (length (now numbers) ≡ 403) ⌝ }
+    ensures { λ r. ⌜ AnsweredWithin (now (buffer .exit)) r ⌝ }
+{
+    let Text::Got { window: rest } = take_text(buffer, window, text) else {
+        say_request();
+        return Answered::Last;
+    };
+    answer(text, request, numbers);
+    Answered::On { window: rest }
+}
+
+// Answers a request whose line was taken.
+fn answer_request(buffer: &mut [u8], window: Window, request: Request, numbers: &[u32]) -> Answered
+    requires { ⌜ (Within (now buffer) window) × (RequestOf (now numbers) request) × (length (now numbers) ≡ 403) ⌝ }
+    ensures { λ r. ⌜ AnsweredWithin (now (buffer .exit)) r ⌝ }
+{
+    let mut text = [0u8; 65536];
+    let bytes = request.bytes;
+    answer_text(buffer, window, request, numbers, &mut text[..bytes])
+}
+
+// Answers the request that has the line.
+fn answer_line(buffer: &mut [u8], window: Window, line: &[u8]) -> Answered
+    requires { ⌜ Within (now buffer) window ⌝ }
+    ensures { λ r. ⌜ AnsweredWithin (now (buffer .exit)) r ⌝ }
+{
+    let mut numbers = [0u32; 403];
+    let RequestRead::Got { request } = read_request(line, &mut numbers) else {
+        say_request();
+        return Answered::Last;
+    };
+    answer_request(buffer, window, request, &numbers)
+}
+
+// Takes the next line of the input, and answers the request that has it.
+fn next_line(buffer: &mut [u8], window: Window, line: &mut [u8]) -> Answered
+    requires { ⌜ Within (now buffer) window ⌝ }
+    ensures { λ r. ⌜ AnsweredWithin (now (buffer .exit)) r ⌝ }
+{
+    let taken = take_line(buffer, window, line);
+    match taken {
+        Line::End => Answered::Last,
+        Line::Malformed => {
+            say_request();
+            Answered::Last
+        }
+        Line::Got {
+            length,
+            window: rest,
+        } => answer_line(buffer, rest, &line[..length]),
+    }
+}
+
+// Answers the next request, whose line is shorter than the place for it.
+fn answer_next(buffer: &mut [u8], window: Window) -> Answered
+    requires { ⌜ Within (now buffer) window ⌝ }
+    ensures { λ r. ⌜ AnsweredWithin (now (buffer .exit)) r ⌝ }
+{
+    let mut line = [0u8; 4500];
+    next_line(buffer, window, &mut line)
+}
+
+// Answers requests until the input ends or one is malformed. A proved loop has to end, so it counts its turns down from a number that no
+// run uses up.
+fn answer_all(buffer: &mut [u8]) {
+    let mut window = Window { start: 0, end: 0 };
+    let mut turns = u64::MAX;
+    while turns > 0 {
+        let Answered::On { window: rest } = answer_next(buffer, window) else {
+            return;
+        };
+        window = rest;
+        turns -= 1;
+    }
+}
+
+fn main() {
+    let mut buffer = [0u8; 65536];
+    answer_all(&mut buffer);
+}

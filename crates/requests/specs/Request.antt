@@ -1,0 +1,90 @@
+-- What a request's line says: it is read as report's numbers are written, a word and then numbers, each after a tab.
+use mathlib.Core.Path.{_≡_}
+use Prim.Native.Nat.{ℕ, _<_, _≤_}
+use mathlib.Core.List.{List, [], _∷_, _++_}
+use lib.ListN.{length, getD, take, drop}
+use Rattle.rules.specs.Text.{Bytes}
+use Rattle.report.specs.Decimal.{decimal}
+use Rattle.report.specs.Line.{fields}
+use Rattle.requests.specs.declared.Ask.{Ask}
+use Rattle.requests.specs.declared.Ask.the-variants as Ask
+use Rattle.requests.specs.declared.AskRead.{AskRead}
+use Rattle.requests.specs.declared.AskRead.the-variants as AskRead
+use Rattle.requests.specs.declared.NumberRead.{NumberRead}
+use Rattle.requests.specs.declared.NumberRead.the-variants as NumberRead
+use Rattle.requests.specs.declared.Request.{Request}
+use Rattle.requests.specs.declared.RequestRead.{RequestRead}
+use Rattle.requests.specs.declared.RequestRead.the-variants as RequestRead
+use Rattle.requests.specs.declared.CountRead.{CountRead}
+use Rattle.requests.specs.declared.CountRead.the-variants as CountRead
+
+-- the words `judge`, `play` and `outcome`
+abbrev pub nameOf : Ask → Bytes
+nameOf Ask.Judge = 106 ∷ 117 ∷ 100 ∷ 103 ∷ 101 ∷ []
+nameOf Ask.Play = 112 ∷ 108 ∷ 97 ∷ 121 ∷ []
+nameOf Ask.Outcome = 111 ∷ 117 ∷ 116 ∷ 99 ∷ 111 ∷ 109 ∷ 101 ∷ []
+
+-- a field has a byte at least, and no 0 in front of another
+pub record Plain (field : Bytes) : Type 0 where
+  pub some : 0 < length field
+  pub lead : 1 < length field → getD field 0 0 ≡ 48 → ⊥
+
+-- the field is the number in decimal
+abbrev pub NumberReply : Bytes → NumberRead → Type 0
+NumberReply field (NumberRead.Got n) = field ≡ decimal n
+NumberReply field NumberRead.Nothing = Unit {0}
+
+-- a field that begins at a place ends at a tab, or with the line
+pub record FieldEnd (line : Bytes) (begin end : ℕ) : Type 0 where
+  pub on : begin ≤ end
+  pub inside : end ≤ length line
+  pub stops : end < length line → getD line end 0 ≡ 9
+
+-- the line goes on with so many numbers
+pub record CountOf (line : Bytes) (at : ℕ) (numbers : List ℕ) (n : ℕ) : Type 0 where
+  pub few : n ≤ 403
+  pub reads : drop at line ≡ fields (take n numbers)
+
+abbrev pub CountReply : Bytes → ℕ → List ℕ → CountRead → Type 0
+CountReply line at numbers (CountRead.Got n) = CountOf line at numbers n
+CountReply line at numbers CountRead.Malformed = Unit {0}
+
+abbrev pub AskReply : Bytes → AskRead → Type 0
+AskReply field (AskRead.Got ask) = field ≡ nameOf ask
+AskReply field AskRead.Unknown = Unit {0}
+
+-- judge: workspace, bytes; play: those, room and cells; outcome: those, room and the outcome's number
+abbrev pub Counted : Ask → ℕ → Type 0
+Counted Ask.Judge n = n ≡ 2
+Counted Ask.Play n = 3 ≤ n
+Counted Ask.Outcome n = n ≡ 4
+
+-- the numbers of a request, within the limits
+pub record RequestOf (numbers : List ℕ) (r : Request) : Type 0 where
+  pub work-is : r .work ≡ getD numbers 0 0
+  pub bytes-is : r .bytes ≡ getD numbers 1 0
+  pub room-is : 3 ≤ r .count → r .room ≡ getD numbers 2 0
+  pub counted : Counted (r .ask) (r .count)
+  pub few : r .count ≤ 403
+  pub work-within : r .work ≤ 9000
+  pub bytes-within : r .bytes ≤ 65536
+  pub room-within : r .room ≤ 1000
+
+-- the request that is asked with the first n numbers
+pub record Asked (ask : Ask) (numbers : List ℕ) (n : ℕ) (r : Request) : Type 0 where
+  pub ask-is : r .ask ≡ ask
+  pub count-is : r .count ≡ n
+  pub means : RequestOf numbers r
+
+abbrev pub RequestReply : Ask → List ℕ → ℕ → RequestRead → Type 0
+RequestReply ask numbers n (RequestRead.Got r) = Asked ask numbers n r
+RequestReply ask numbers n RequestRead.Malformed = Unit {0}
+
+-- the line is the word of what is asked and the request's numbers
+pub record LineOf (line : Bytes) (numbers : List ℕ) (r : Request) : Type 0 where
+  pub written : line ≡ nameOf (r .ask) ++ fields (take (r .count) numbers)
+  pub means : RequestOf numbers r
+
+abbrev pub LineReply : Bytes → List ℕ → RequestRead → Type 0
+LineReply line numbers (RequestRead.Got r) = LineOf line numbers r
+LineReply line numbers RequestRead.Malformed = Unit {0}

@@ -1,0 +1,84 @@
+// sorbitanque: the three entries for programs in other languages, on numbers and slices. Each puts the numbers of its reply into
+// seven places that are lent. It sees rules, sheet and report.
+ghost use mathlib.Core.Path.{_≡_};
+ghost use Rattle.rules.specs.Words.{oneIf};
+ghost use Rattle.sorbitanque.specs.Details.{JudgeTold, OutcomeTold, PlayTold};
+use report::tell;
+use sheet::judge;
+use sheet::outcome;
+use sheet::play;
+
+// 1 where it holds, else 0.
+fn one_if(holds: bool) -> u32
+    ensures { λ r. ⌜ r ≡ oneIf holds ⌝ }
+{
+    if holds { 1 } else { 0 }
+}
+
+// Judges a sheet: verdict, line, cell, index, moves, waits, outcomes.
+#[no_mangle]
+pub extern "C" fn sorbitanque_judge(sheet: &[u8], workspace: &mut [u32], details: &mut [u32; 7])
+    ensures { λ _. ⌜ JudgeTold (now (workspace .entry)) (now (sheet .entry)) (now (workspace .exit)) (now (details .exit)) ⌝ }
+{
+    let told = tell(judge(sheet, workspace));
+    *details = [
+        told.number,
+        told.line,
+        told.cell,
+        told.index,
+        told.moves,
+        told.waits,
+        told.outcomes,
+    ];
+}
+
+// Lists the cells of an outcome of a sheet: verdict, line, cell, index, cells, 0, 0.
+#[no_mangle]
+pub extern "C" fn sorbitanque_outcome(
+    sheet: &[u8],
+    number: u32,
+    room: &mut [u32],
+    workspace: &mut [u32],
+    details: &mut [u32; 7],
+)
+    ensures { λ _. ⌜ OutcomeTold (now (workspace .entry)) (now (sheet .entry)) number (now (room .entry)) (now (workspace .exit)) (now (room .exit)) (now (details .exit)) ⌝ }
+{
+    let named = outcome(sheet, number, room, workspace);
+    let verdict = named.verdict;
+    let told = tell(verdict);
+    *details = [
+        told.number,
+        told.line,
+        told.cell,
+        told.index,
+        named.cells as u32,
+        0,
+        0,
+    ];
+}
+
+// Plays a sheet against a list of opponent cells: verdict, line, cell, index, place, answers, over.
+#[no_mangle]
+pub extern "C" fn sorbitanque_play(
+    sheet: &[u8],
+    moves: &[u32],
+    room: &mut [u32],
+    workspace: &mut [u32],
+    details: &mut [u32; 7],
+)
+    ensures { λ _. ⌜ PlayTold (now (workspace .entry)) (now (sheet .entry)) (now (moves .entry)) (now (room .entry)) (now (workspace .exit)) (now (room .exit)) (now (details .exit)) ⌝ }
+{
+    let played = play(sheet, moves, room, workspace);
+    let verdict = played.verdict;
+    let told = tell(verdict);
+    let over = one_if(played.over);
+    *details = [
+        told.number,
+        told.line,
+        told.cell,
+        told.index,
+        played.place as u32,
+        played.answers as u32,
+        over,
+    ];
+}

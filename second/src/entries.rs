@@ -1,0 +1,190 @@
+//! Section "Three entries": judge, play and outcome, with the memory lent to them.
+
+use crate::answering::Game;
+use crate::fair::{first_not_apart, first_not_elusive, first_unfair};
+use crate::fault::{self, Fault};
+use crate::outcomes::{count_of_move, first_unjoined, outcomes_of_move, too_many};
+use crate::sheet::{self, count_moves, count_waits, Sheet};
+use crate::verdict::Verdict;
+use std::collections::BTreeSet;
+
+/// How many numbers of workspace must be lent.
+pub const WORKSPACE: usize = 8_192;
+
+/// What judge replies.
+#[derive(Clone, Copy, PartialEq, Eq, Debug)]
+pub struct Judged {
+    pub verdict: Verdict,
+    pub moves: usize,
+    pub waits: usize,
+    pub outcomes: usize,
+}
+
+/// What play replies.
+#[derive(Clone, Copy, PartialEq, Eq, Debug)]
+pub struct Played {
+    pub verdict: Verdict,
+    pub place: usize,
+    pub answers: usize,
+    pub over: bool,
+}
+
+/// What outcome replies.
+#[derive(Clone, Copy, PartialEq, Eq, Debug)]
+pub struct Listed {
+    pub verdict: Verdict,
+    pub cells: usize,
+}
+
+/// Refuses a short workspace untouched, and clears the numbers of any other.
+fn borrow(text: &[u8], work: &mut [u32]) -> Result<(), Verdict> {
+    if fault::on(Fault::LengthBeforeWorkspace) && text.len() > sheet::TEXT {
+        return Err(Verdict::Length);
+    }
+    if work.len() < WORKSPACE {
+        return Err(Verdict::Workspace);
+    }
+    work[..WORKSPACE].fill(0);
+    Ok(())
+}
+
+/// Decides whether a tree is fair, 10 over the whole tree and then 11.
+fn fair(sheet: &Sheet) -> Result<(), Verdict> {
+    if fault::on(Fault::UnfairPerNode) {
+        return match first_unfair(&sheet.root) {
+            Some((true, (line, cell))) => Err(Verdict::NotApart { line, cell }),
+            Some((false, (line, cell))) => Err(Verdict::NotElusive { line, cell }),
+            None => Ok(()),
+        };
+    }
+    if let Some((line, cell)) = first_not_apart(&sheet.root) {
+        return Err(Verdict::NotApart { line, cell });
+    }
+    if let Some((line, cell)) = first_not_elusive(&sheet.root) {
+        return Err(Verdict::NotElusive { line, cell });
+    }
+    Ok(())
+}
+
+/// Reads a sheet and counts its outcomes, deciding 1 to 12.
+fn counted(text: &[u8], work: &mut [u32]) -> Result<(Sheet, u128), Verdict> {
+    borrow(text, work)?;
+    let sheet = sheet::read(text)?;
+    fair(&sheet)?;
+    let count = count_of_move(&sheet.root);
+    if too_many(count) {
+        return Err(Verdict::TooManyOutcomes);
+    }
+    Ok((sheet, count))
+}
+
+/// Reads a sheet and tests its outcomes, deciding 1 to 13.
+fn accepted(text: &[u8], work: &mut [u32]) -> Result<(Sheet, u128), Verdict> {
+    let (sheet, count) = counted(text, work)?;
+    match first_unjoined(&sheet, count) {
+        Some(index) => Err(Verdict::NotJoined { index }),
+        None => Ok((sheet, count)),
+    }
+}
+
+/// Judges a sheet.
+pub fn judge(text: &[u8], work: &mut [u32]) -> Judged {
+    match accepted(text, work) {
+        Err(verdict) => Judged { verdict, moves: 0, waits: 0, outcomes: 0 },
+        Ok((sheet, count)) => {
+            let uncounted = fault::on(Fault::RootNotCounted) && sheet.root.cell == 0;
+            Judged {
+                verdict: Verdict::Done,
+                moves: count_moves(&sheet.root) - usize::from(uncounted),
+                waits: count_waits(&sheet.root),
+                outcomes: count as usize,
+            }
+        }
+    }
+}
+
+/// Plays a list of opponent's cells by a sheet; the room takes the answers.
+pub fn play(text: &[u8], cells: &[u32], room: &mut [u32], work: &mut [u32]) -> Played {
+    let refused = |(verdict, place)| Played { verdict, place, answers: 0, over: false };
+    let sheet = match accepted(text, work) {
+        Ok((sheet, _)) => sheet,
+        Err(verdict) => return refused((verdict, 0)),
+    };
+    let needed = cells.len() + usize::from(fault::on(Fault::RoomOneMore));
+    if room.len() < needed && !fault::on(Fault::RoomPerMove) {
+        return refused((Verdict::Room, 0));
+    }
+    match answers(&sheet, cells, room.len()) {
+        Err(refusal) => refused(refusal),
+        Ok((answers, over)) => {
+            write(room, &answers);
+            Played { verdict: Verdict::Done, place: 0, answers: answers.len(), over }
+        }
+    }
+}
+
+/// Plays move by move and gives the answers and whether play is over, or the refused place.
+fn answers(
+    sheet: &Sheet,
+    cells: &[u32],
+    room: usize,
+) -> Result<(Vec<usize>, bool), (Verdict, usize)> {
+    let mut game = Game::start(sheet);
+    let mut answers = Vec::new();
+    for (before, &cell) in cells.iter().enumerate() {
+        if fault::on(Fault::RoomPerMove) && before >= room {
+            return Err((Verdict::Room, 0));
+        }
+        if let Some(verdict) = game.refusal(cell as usize) {
+            let place = before + usize::from(!fault::on(Fault::PlaceFromZero));
+            return Err((verdict, place));
+        }
+        answers.extend(game.answer(cell as usize));
+    }
+    Ok((answers, game.over() || game.joined()))
+}
+
+/// Lists the cells of one outcome in ascending order; the room takes them.
+pub fn outcome(text: &[u8], number: u32, room: &mut [u32], work: &mut [u32]) -> Listed {
+    match one_outcome(text, number, room.len(), work) {
+        Err(verdict) => Listed { verdict, cells: 0 },
+        Ok(cells) => {
+            write(room, &cells);
+            Listed { verdict: Verdict::Done, cells: cells.len() }
+        }
+    }
+}
+
+/// Finds the cells of one outcome, deciding 1 to 12, then 18, then 14.
+fn one_outcome(
+    text: &[u8],
+    number: u32,
+    room: usize,
+    work: &mut [u32],
+) -> Result<Vec<usize>, Verdict> {
+    let judged = if fault::on(Fault::OutcomeGives13) { accepted } else { counted };
+    let (sheet, count) = judged(text, work)?;
+    let listed = outcomes_of_move(&sheet.root, count as usize);
+    let nearest = listed.get(number as usize).or(listed.last());
+    if fault::on(Fault::RoomBeforeNumber) && nearest.is_some_and(|cells| room < cells.len()) {
+        return Err(Verdict::Room);
+    }
+    let found = listed.get(number as usize).ok_or(Verdict::NoSuchOutcome)?;
+    let cells: Vec<usize> = if fault::on(Fault::CellsUnsorted) {
+        found.clone()
+    } else {
+        found.iter().copied().collect::<BTreeSet<usize>>().into_iter().collect()
+    };
+    let needed = cells.len() + usize::from(fault::on(Fault::RoomOneMore));
+    if room < needed {
+        return Err(Verdict::Room);
+    }
+    Ok(cells)
+}
+
+/// Writes numbers into the first places of the room.
+fn write(room: &mut [u32], numbers: &[usize]) {
+    for (place, number) in room.iter_mut().zip(numbers) {
+        *place = *number as u32;
+    }
+}

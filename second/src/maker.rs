@@ -1,0 +1,238 @@
+//! The maker of sheets: a pool of won boards and the sheets grown from it.
+
+use crate::entries::{judge, WORKSPACE};
+use crate::grow;
+use crate::links;
+use crate::plan::{Plan, NONE};
+use crate::rng::Rng;
+use crate::solve;
+use crate::templates;
+use crate::verdict::Verdict;
+
+/// The random state, how often the dearest recipe was used, and the boards won beforehand for D.
+pub struct Maker {
+    pub rng: Rng,
+    pub turn: usize,
+    searched: Vec<Plan>,
+    solved: Vec<Plan>,
+}
+
+const SEARCHED: [(usize, usize, usize, usize); 18] = [
+    (2, 2, 3, 6),
+    (3, 2, 3, 6),
+    (3, 3, 4, 6),
+    (4, 3, 4, 6),
+    (6, 3, 3, 5),
+    (4, 4, 4, 6),
+    (5, 4, 4, 6),
+    (7, 4, 3, 5),
+    (5, 5, 4, 6),
+    (6, 5, 4, 5),
+    (8, 5, 3, 4),
+    (10, 5, 4, 4),
+    (13, 4, 3, 3),
+    (7, 6, 4, 6),
+    (9, 6, 3, 3),
+    (13, 6, 4, 4),
+    (10, 7, 4, 6),
+    (13, 7, 5, 6),
+];
+
+const SOLVED: [(usize, usize, bool); 11] = [
+    (1, 1, true),
+    (3, 1, true),
+    (2, 2, true),
+    (3, 2, true),
+    (3, 3, true),
+    (3, 3, false),
+    (4, 2, true),
+    (5, 2, true),
+    (6, 2, false),
+    (4, 3, false),
+    (4, 3, false),
+];
+
+/// Says whether a plan is accepted.
+pub fn accepted(plan: &Plan) -> bool {
+    let mut work = vec![0; WORKSPACE];
+    plan.fits() && judge(&plan.text(), &mut work).verdict == Verdict::Done
+}
+
+impl Maker {
+    /// Starts from a seed and wins the boards of the pool.
+    pub fn new(seed: u64) -> Maker {
+        let mut rng = Rng::new(seed);
+        let mut searched = Vec::new();
+        for &(columns, rows, rounds, most) in &SEARCHED {
+            searched.extend(links::plans(columns, rows, rounds, most, &mut rng));
+        }
+        let mut solved = Vec::new();
+        for &(columns, rows, complete) in &SOLVED {
+            solved.extend(solve::plans(columns, rows, complete, &mut rng));
+        }
+        Maker { rng, turn: 0, searched, solved }
+    }
+
+    /// Picks a number of columns or rows, small ones more often.
+    fn side(&mut self) -> i32 {
+        let most = if self.rng.chance(60) { 6 } else { 13 };
+        self.rng.between(1, most) as i32
+    }
+
+    /// Makes a candidate of some kind, which may be no good.
+    fn candidate(&mut self) -> Option<Plan> {
+        let (columns, rows) = (self.side(), self.side());
+        let rng = &mut self.rng;
+        let plan = match rng.below(8) {
+            0 | 1 => templates::edges(columns, rows, rng),
+            2 | 3 => templates::ladder(columns, rows, rng),
+            4 if columns > rows && rows <= 5 => templates::pairing(columns, rows, rng),
+            5 => templates::one_row(columns, rng),
+            6 => {
+                let one = templates::edges(columns, rows, rng);
+                templates::beside(one, templates::edges(13 - columns.min(12), rows, rng))?
+            }
+            _ => {
+                let one = rng.pick(&self.searched).clone();
+                templates::beside(one, rng.pick(&self.searched).clone())?
+            }
+        };
+        Some(plan)
+    }
+
+    /// Makes an accepted plan for D with at most so many outcomes.
+    pub fn base(&mut self, most: u128) -> Plan {
+        loop {
+            let small = |plan: &Plan| plan.root.outcomes() <= most && plan.root.nodes() <= 2_048;
+            let found = match self.rng.below(16) {
+                0..=4 => Some(self.rng.pick(&self.searched).clone()).filter(small),
+                5..=7 => Some(self.rng.pick(&self.solved).clone()).filter(small),
+                _ => self.candidate().filter(small).filter(accepted),
+            };
+            if let Some(plan) = found {
+                return plan;
+            }
+        }
+    }
+
+    /// Widens and turns a plan at random, and gives it to A half the time.
+    pub fn placed(&mut self, mut plan: Plan) -> Plan {
+        if self.rng.chance(50) {
+            let columns = self.rng.between(plan.columns as usize, 13) as i32;
+            let left = self.rng.below((columns - plan.columns + 1) as usize) as i32;
+            plan = plan.widened(columns, left);
+        }
+        if self.rng.chance(50) {
+            plan = plan.turned();
+        }
+        if self.rng.chance(50) {
+            plan = plan.transposed();
+        }
+        plan
+    }
+
+    /// Makes an accepted plan, placed and grown, with at most so many outcomes.
+    pub fn plan(&mut self, most: u128) -> Plan {
+        let base = self.base(most);
+        let mut plan = self.placed(base);
+        let changes = if self.rng.chance(30) { 0 } else { self.rng.between(1, 8) };
+        grow::grow(&mut plan, changes, most, &mut self.rng);
+        plan
+    }
+
+    /// Makes an accepted plan that is rather deep.
+    pub fn deep_plan(&mut self, most: u128) -> Plan {
+        let base = self.base(most);
+        let mut plan = self.placed(base.clone().widened(base.columns.max(12), 0));
+        let count = self.rng.between(3, 60);
+        grow::deepen(&mut plan, count, most, &mut self.rng);
+        grow::grow(&mut plan, 2, most, &mut self.rng);
+        plan
+    }
+
+    /// Makes an accepted plan on two rows or more, in which play is not over at once.
+    fn tall_base(&mut self, most: u128) -> Plan {
+        loop {
+            let plan = self.base(most);
+            if plan.rows >= 2 {
+                return plan;
+            }
+        }
+    }
+
+    /// Makes an accepted plan with many idle waits open from the start, for long games.
+    pub fn idle_plan(&mut self, most: u128) -> Plan {
+        let base = self.tall_base(60);
+        let columns = base.columns.max(self.rng.between(6, 13) as i32);
+        let mut plan = base.widened(columns, 0);
+        for _ in 0..self.rng.between(1, 6) {
+            if plan.root.outcomes() * 2 <= most {
+                grow::idle_pair(&mut plan, &mut self.rng);
+            }
+        }
+        grow::grow(&mut plan, 3, most, &mut self.rng);
+        if self.rng.chance(50) {
+            plan = plan.transposed();
+        }
+        plan
+    }
+
+    /// Makes an accepted plan whose waits begin with moves that only delay, for long games.
+    pub fn slow_plan(&mut self, most: u128) -> Plan {
+        let base = self.tall_base(12);
+        let columns = base.columns.max(self.rng.between(8, 13) as i32);
+        let mut plan = base.widened(columns, 0);
+        for count in [24, 12] {
+            let count = self.rng.between(2, count);
+            grow::hinder(&mut plan, count, most, &mut self.rng);
+            if plan.root.outcomes() * 2 <= most {
+                grow::idle_pair(&mut plan, &mut self.rng);
+            }
+        }
+        if self.rng.chance(50) {
+            plan = plan.transposed();
+        }
+        plan
+    }
+
+    /// Makes a fair tree over any cells of any board, which seldom joins.
+    pub fn free_plan(&mut self) -> Plan {
+        let mut plan = Plan::new(self.side(), self.side(), crate::plan::leaf(NONE));
+        let mut spots = plan.unused(&mut self.rng);
+        spots.truncate(self.rng.between(1, 24));
+        plan.root = templates::free_move(&spots, &mut self.rng);
+        if self.rng.chance(20) {
+            plan.root.spot = NONE;
+        }
+        plan
+    }
+
+    /// Makes a ladder of bridges or a straight chain that fits its board, up to 13 by 13.
+    pub fn long_plan(&mut self) -> Plan {
+        loop {
+            let (columns, rows) = (self.rng.between(5, 13) as i32, self.rng.between(3, 13) as i32);
+            let rng = &mut self.rng;
+            let plan = if rng.chance(60) {
+                templates::chain(columns, rows, rng)
+            } else {
+                templates::bridges(columns, rows, rng)
+            };
+            if plan.fits() && plan.root.outcomes() <= 5_000 {
+                return if rng.chance(50) { plan.transposed() } else { plan };
+            }
+        }
+    }
+
+    /// Makes a pairing on any board with more columns than rows, with too many outcomes on large ones.
+    pub fn pairing(&mut self) -> Plan {
+        let most = *self.rng.pick(&[4, 4, 12]);
+        let rows = self.rng.between(1, most) as i32;
+        let columns = self.rng.between(rows as usize + 1, 13) as i32;
+        let plan = templates::pairing(columns, rows, &mut self.rng);
+        if self.rng.chance(50) {
+            plan.transposed()
+        } else {
+            plan
+        }
+    }
+}

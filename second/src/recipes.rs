@@ -1,0 +1,171 @@
+//! The kinds of sheets in a corpus and how often each is made.
+
+use crate::damage;
+use crate::grow;
+use crate::limits;
+use crate::maker::Maker;
+use crate::plan::Plan;
+use crate::rng::Rng;
+use crate::templates;
+use crate::unfair;
+
+/// A way of making a sheet.
+pub type Recipe = fn(&mut Maker) -> Vec<u8>;
+
+/// Sheets that are accepted.
+pub const GOOD: [(usize, Recipe); 6] = [
+    (18, |maker| maker.plan(300).text()),
+    (1, |maker| maker.plan(3_000).text()),
+    (4, |maker| maker.deep_plan(500).text()),
+    (7, |maker| maker.idle_plan(600).text()),
+    (8, |maker| maker.slow_plan(800).text()),
+    (2, |maker| maker.pairing().text()),
+];
+
+/// Accepted sheets that are dear to test: as many nodes or outcomes as are allowed.
+pub const DEAR: [(usize, Recipe); 2] = [(2, padded), (1, full)];
+
+/// Fair sheets of which most have an outcome that does not join, or too many outcomes.
+pub const UNJOINED: [(usize, Recipe); 7] = [
+    (3, |maker| maker.free_plan().text()),
+    (5, |maker| maker.long_plan().text()),
+    (6, |maker| spoiled(maker, unfair::astray)),
+    (3, |maker| spoiled(maker, unfair::drop_wait)),
+    (1, |maker| spoiled(maker, |plan, _| unfair::other_player(plan))),
+    (2, |maker| limits::deep(125 + 2 * maker.rng.below(2), &mut maker.rng).text()),
+    (4, |maker| limits::over_outcomes(&mut maker.rng).text()),
+];
+
+/// Sheets that are not apart or not elusive.
+pub const UNFAIR: [(usize, Recipe); 8] = [
+    (4, |maker| spoiled(maker, unfair::own_below)),
+    (5, |maker| spoiled(maker, |plan, rng| unfair::shared(plan, true, rng))),
+    (2, |maker| spoiled(maker, |plan, rng| unfair::shared(plan, false, rng))),
+    (3, |maker| spoiled(maker, unfair::single)),
+    (5, |maker| spoiled(maker, unfair::common)),
+    (3, |maker| spoiled(maker, unfair::both)),
+    (2, twice_spoiled),
+    (4, spoiled_large),
+];
+
+/// Damaged texts.
+pub const DAMAGED: [(usize, Recipe); 11] = [
+    (10, |maker| damaged(maker, damage::line)),
+    (3, twice_damaged),
+    (4, |maker| damaged(maker, damage::header)),
+    (4, |maker| damaged(maker, damage::zero)),
+    (3, |maker| damaged(maker, damage::off_board)),
+    (2, |maker| damaged(maker, damage::early)),
+    (3, |maker| damaged(maker, damage::end)),
+    (3, |maker| damaged(maker, damage::tail)),
+    (8, |maker| damaged(maker, damage::bytes)),
+    (2, |maker| damage::soup(&mut maker.rng)),
+    (1, |_| Vec::new()),
+];
+
+/// Texts at the limits of reading.
+pub const LIMITS: [(usize, Recipe); 6] = [
+    (5, |maker| {
+        let base = maker.plan(100).text();
+        limits::long_text(&base, &mut maker.rng)
+    }),
+    (3, |maker| limits::overfull(&mut maker.rng)),
+    (2, |maker| limits::just_full(&mut maker.rng)),
+    (2, |maker| limits::deep(129, &mut maker.rng).text()),
+    (5, |maker| limits::deep_text(&mut maker.rng)),
+    (2, |maker| limits::counts(&mut maker.rng)),
+];
+
+/// Lists all recipes, each as often as it weighs, in a random order.
+pub fn schedule(groups: &[&[(usize, Recipe)]], rng: &mut Rng) -> Vec<Recipe> {
+    let mut all: Vec<Recipe> = Vec::new();
+    for &(weight, recipe) in groups.iter().flat_map(|group| group.iter()) {
+        all.extend(std::iter::repeat_n(recipe, weight));
+    }
+    rng.shuffle(&mut all);
+    all
+}
+
+/// Makes an accepted plan and spoils it.
+fn spoiled(maker: &mut Maker, spoil: fn(&mut Plan, &mut Rng)) -> Vec<u8> {
+    let mut plan = maker.plan(300);
+    spoil(&mut plan, &mut maker.rng);
+    plan.text()
+}
+
+/// Makes a plan unfair in one of four ways.
+fn spoil(plan: &mut Plan, rng: &mut Rng) {
+    match rng.below(4) {
+        0 => unfair::own_below(plan, rng),
+        1 => unfair::shared(plan, false, rng),
+        2 => unfair::single(plan, rng),
+        _ => unfair::common(plan, rng),
+    }
+}
+
+/// Makes an accepted plan and makes it unfair in two places.
+fn twice_spoiled(maker: &mut Maker) -> Vec<u8> {
+    let mut plan = maker.plan(300);
+    spoil(&mut plan, &mut maker.rng);
+    spoil(&mut plan, &mut maker.rng);
+    plan.text()
+}
+
+/// Makes a fair plan on any board up to 13 by 13 and makes it unfair.
+fn spoiled_large(maker: &mut Maker) -> Vec<u8> {
+    let mut plan = match maker.rng.below(4) {
+        0 => limits::deep(2 * maker.rng.between(3, 63) + 1, &mut maker.rng),
+        1 => maker.long_plan(),
+        _ => maker.free_plan(),
+    };
+    spoil(&mut plan, &mut maker.rng);
+    plan.text()
+}
+
+/// Makes a sheet, mostly accepted, and damages its text.
+fn damaged(maker: &mut Maker, damage: fn(&[u8], &mut Rng) -> Vec<u8>) -> Vec<u8> {
+    let text = maker.plan(60).text();
+    damage(&text, &mut maker.rng)
+}
+
+/// Makes a sheet and damages its text in two places.
+fn twice_damaged(maker: &mut Maker) -> Vec<u8> {
+    let once = damaged(maker, damage::line);
+    if maker.rng.chance(70) {
+        damage::line(&once, &mut maker.rng)
+    } else {
+        damage::end(&once, &mut maker.rng)
+    }
+}
+
+/// Makes a sheet with about as many nodes as are allowed.
+fn padded(maker: &mut Maker) -> Vec<u8> {
+    let nodes = maker.rng.between(2_046, 2_048);
+    if maker.rng.chance(50) {
+        return limits::many_nodes(nodes, &mut maker.rng).text();
+    }
+    let mut plan = maker.plan(8);
+    grow::pad(&mut plan, nodes, &mut maker.rng);
+    plan.text()
+}
+
+/// Makes by turns a sheet with as many outcomes as are allowed, one fewer and one more.
+fn full(maker: &mut Maker) -> Vec<u8> {
+    maker.turn += 1;
+    match maker.turn % 8 {
+        1 | 5 => limits::full_outcomes(&mut maker.rng).text(),
+        2 | 4 | 7 => limits::one_more(&mut maker.rng).text(),
+        3 => limits::one_fewer(&mut maker.rng).text(),
+        6 => {
+            let mut plan = maker.plan(16);
+            grow::double(&mut plan, 65_536, &mut maker.rng);
+            plan.text()
+        }
+        _ => {
+            let plan = templates::pairing(7, 5, &mut maker.rng);
+            let mut plan = maker.placed(plan);
+            grow::idle_pair(&mut plan, &mut maker.rng);
+            plan.text()
+        }
+    }
+}

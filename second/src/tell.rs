@@ -1,0 +1,54 @@
+//! Checks of a corpus: that it tells every fault, and that it meets every verdict.
+
+use crate::corpus::{requests, Sizes};
+use crate::fault::{self, Fault};
+use crate::replies;
+use crate::requests::{Ask, Request};
+
+/// The fewest replies by which a fault counts as told.
+const TOLD: usize = 3;
+/// The fewest times each verdict has to be met.
+const MET: usize = 20;
+
+/// Answers all requests with a fault, or with none.
+fn answered(requests: &[Request], fault: Option<Fault>) -> Vec<String> {
+    fault::set(fault);
+    let replies = requests.iter().map(replies::line).collect();
+    fault::set(None);
+    replies
+}
+
+/// Prints for every fault how many replies differ, and says whether all faults are told.
+pub fn tell(sizes: &Sizes) -> bool {
+    let requests = requests(sizes);
+    let right = answered(&requests, None);
+    let mut all_told = true;
+    for (fault, name) in fault::ALL {
+        let wrong = answered(&requests, Some(fault));
+        let differ = |place: &usize| right[*place] != wrong[*place];
+        let count = (0..right.len()).filter(differ).count();
+        all_told &= count >= TOLD;
+        println!("{name}\t{count}{}", if count >= TOLD { "" } else { "\tnot told" });
+    }
+    all_told
+}
+
+/// Prints how often each verdict is met by judge, play and outcome and in all, and says whether often enough.
+pub fn histogram(sizes: &Sizes) -> bool {
+    let mut met = [[0usize; 4]; 19];
+    for request in requests(sizes) {
+        let kind = match request.ask {
+            Ask::Judge => 0,
+            Ask::Play { .. } => 1,
+            Ask::Outcome { .. } => 2,
+        };
+        let verdict = replies::numbers(&request)[0];
+        met[verdict][kind] += 1;
+        met[verdict][3] += 1;
+    }
+    println!("verdict\tjudge\tplay\toutcome\tall");
+    for (verdict, counts) in met.iter().enumerate() {
+        println!("{verdict}\t{}\t{}\t{}\t{}", counts[0], counts[1], counts[2], counts[3]);
+    }
+    met.iter().all(|counts| counts[3] >= MET)
+}

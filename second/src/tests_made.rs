@@ -1,0 +1,131 @@
+//! Checks of the made-up sheets and of the corpus.
+
+use crate::corpus::{requests, Sizes};
+use crate::entries::{judge, WORKSPACE};
+use crate::fault;
+use crate::limits;
+use crate::links;
+use crate::maker::{accepted, Maker};
+use crate::outcomes::{count_of_move, outcomes_of_move};
+use crate::replies;
+use crate::requests::{next, write, Ask, Next};
+use crate::rng::Rng;
+use crate::sheet;
+use crate::solve;
+use crate::templates;
+use std::io::Cursor;
+
+/// Gives the verdict number of a text.
+fn verdict(text: &[u8]) -> usize {
+    judge(text, &mut vec![0; WORKSPACE]).verdict.numbers()[0]
+}
+
+/// Everything the two searches find is accepted.
+#[test]
+fn won_boards() {
+    let mut rng = Rng::new(5);
+    for (columns, rows) in [(2, 2), (3, 2), (4, 4), (5, 5), (7, 4), (9, 7)] {
+        let plans = links::plans(columns, rows, 4, 6, &mut rng);
+        assert!(!plans.is_empty() && plans.iter().all(accepted), "{columns} by {rows}");
+    }
+    for (columns, rows, complete) in [(1, 1, true), (3, 2, true), (3, 3, true), (4, 2, false)] {
+        let plans = solve::plans(columns, rows, complete, &mut rng);
+        assert!(!plans.is_empty() && plans.iter().all(accepted), "{columns} by {rows}");
+    }
+}
+
+/// Pairings are accepted on boards small enough, for both players.
+#[test]
+fn pairings() {
+    let mut rng = Rng::new(6);
+    for rows in 1..=4 {
+        for columns in rows + 1..=13 {
+            let plan = templates::pairing(columns, rows, &mut rng);
+            assert!(accepted(&plan) && accepted(&plan.transposed()), "{columns} by {rows}");
+        }
+    }
+    assert_eq!(verdict(&templates::pairing(13, 12, &mut rng).text()), 12);
+}
+
+/// Grown, deepened, idle and slow plans stay accepted.
+#[test]
+fn grown_plans() {
+    let mut maker = Maker::new(7);
+    for _ in 0..60 {
+        assert!(accepted(&maker.plan(300)));
+        assert!(accepted(&maker.deep_plan(300)));
+        assert!(accepted(&maker.idle_plan(300)));
+        assert!(accepted(&maker.slow_plan(300)));
+    }
+}
+
+/// The sheets at the limit of outcomes fall on the right side of it.
+#[test]
+fn outcome_limits() {
+    let mut rng = Rng::new(8);
+    for _ in 0..6 {
+        assert_eq!(limits::full_outcomes(&mut rng).root.outcomes(), 65_536);
+        assert_eq!(limits::one_fewer(&mut rng).root.outcomes(), 65_535);
+        assert_eq!(limits::one_more(&mut rng).root.outcomes(), 65_537);
+        assert_eq!(verdict(&limits::full_outcomes(&mut rng).text()), 0);
+        assert_eq!(verdict(&limits::one_fewer(&mut rng).text()), 0);
+        assert_eq!(verdict(&limits::one_more(&mut rng).text()), 12);
+        assert_eq!(verdict(&limits::over_outcomes(&mut rng).text()), 12);
+    }
+}
+
+/// As many outcomes are listed as are counted, and the first of them when fewer are wanted.
+#[test]
+fn counts_and_lists() {
+    let mut maker = Maker::new(9);
+    for _ in 0..100 {
+        let sheet = sheet::read(&maker.plan(300).text()).expect("made plans can be read");
+        let all = outcomes_of_move(&sheet.root, 1_000);
+        assert_eq!(all.len() as u128, count_of_move(&sheet.root));
+        let some = maker.rng.below(all.len()) + 1;
+        assert_eq!(outcomes_of_move(&sheet.root, some), all[..some]);
+    }
+}
+
+/// Requests are read as they were written, the same seed makes the same, every fault answers.
+#[test]
+fn small_corpus() {
+    let sizes = Sizes { seed: 3, judges: 150, plays: 100, outcomes: 80 };
+    let made = requests(&sizes);
+    let mut bytes = Vec::new();
+    for request in &made {
+        write(request, &mut bytes).expect("memory never fails");
+    }
+    let mut input = Cursor::new(bytes);
+    for request in requests(&sizes) {
+        assert_eq!(next(&mut input).expect("memory never fails"), Next::Request(request));
+    }
+    assert_eq!(next(&mut input).expect("memory never fails"), Next::End);
+    for (chosen, name) in fault::ALL {
+        assert_eq!(fault::named(name), Some(chosen));
+        fault::set(Some(chosen));
+        made.iter().for_each(|request| drop(replies::line(request)));
+    }
+    fault::set(None);
+}
+
+/// In games by accepted sheets every move has one answer, on an empty cell.
+#[test]
+fn one_answer_each() {
+    let sizes = Sizes { seed: 4, judges: 0, plays: 400, outcomes: 0 };
+    for request in requests(&sizes) {
+        let Ask::Play { cells, .. } = &request.ask else {
+            continue;
+        };
+        let reply = replies::numbers(&request);
+        if reply[0] == 0 {
+            assert_eq!(reply[5], cells.len());
+            let theirs = cells.iter().map(|&cell| cell as usize);
+            let mut stones: Vec<usize> = reply[7..].iter().copied().chain(theirs).collect();
+            let count = stones.len();
+            stones.sort_unstable();
+            stones.dedup();
+            assert_eq!(stones.len(), count);
+        }
+    }
+}

@@ -1,0 +1,386 @@
+//! The samples of the paper and the readings of its open places.
+
+use crate::board::{Board, Player};
+use crate::entries::{judge, outcome, play, Judged, Listed, Played, WORKSPACE};
+use crate::joining::joins;
+use crate::replies;
+use crate::requests::{Ask, Request};
+use crate::verdict::Verdict;
+use std::io::Cursor;
+
+const P1: &str = "hex 2 2 D / m b1 1 / w 2 / m a2 0 / m b2 0";
+const P6: &str = "hex 1 1 D / m a1 0";
+const P8: &str =
+    "hex 3 2 D / m - 3 / w 2 / m b1 0 / m c1 0 / w 2 / m a2 0 / m b2 0 / w 2 / m a1 0 / m c2 0";
+
+/// Writes a sample as text, with its last line feed.
+fn text(sample: &str) -> Vec<u8> {
+    let mut text = half(sample);
+    text.push(b'\n');
+    text
+}
+
+/// Writes a sample as text, without its last line feed.
+fn half(sample: &str) -> Vec<u8> {
+    sample.replace(" / ", "\n").replace(' ', "\t").into_bytes()
+}
+
+/// Judges a text with enough workspace.
+fn judged(text: &[u8]) -> Judged {
+    judge(text, &mut vec![7; WORKSPACE])
+}
+
+/// Gives the verdict of a text as its four numbers.
+fn verdict(text: &[u8]) -> [usize; 4] {
+    let judged = judged(text);
+    if judged.verdict != Verdict::Done {
+        assert_eq!((judged.moves, judged.waits, judged.outcomes), (0, 0, 0));
+    }
+    judged.verdict.numbers()
+}
+
+/// Gives the verdict of a sample as its four numbers.
+fn sample(sample: &str) -> [usize; 4] {
+    verdict(&text(sample))
+}
+
+/// Gives the counts of an accepted sample.
+fn counts(sample: &str) -> (usize, usize, usize) {
+    let judged = judged(&text(sample));
+    assert_eq!(judged.verdict, Verdict::Done);
+    (judged.moves, judged.waits, judged.outcomes)
+}
+
+/// Plays a sample with just enough room and gives the reply and the answers.
+fn played(sample: &str, cells: &[u32]) -> (Played, Vec<u32>) {
+    let mut room = vec![0; cells.len()];
+    let reply = play(&text(sample), cells, &mut room, &mut vec![7; WORKSPACE]);
+    room.truncate(reply.answers);
+    (reply, room)
+}
+
+/// Gives the verdict number, place and whether play is over.
+fn refused(sample: &str, cells: &[u32]) -> (usize, usize, bool) {
+    let (reply, answers) = played(sample, cells);
+    assert!(answers.is_empty());
+    (reply.verdict.numbers()[0], reply.place, reply.over)
+}
+
+/// Asks for an outcome of a sample with so much room.
+fn listed(sample: &str, number: u32, room: usize) -> (usize, Vec<u32>) {
+    let mut room = vec![99; room];
+    let reply: Listed = outcome(&text(sample), number, &mut room, &mut vec![7; WORKSPACE]);
+    room.truncate(reply.cells);
+    (reply.verdict.numbers()[0], room)
+}
+
+/// Writes a sheet of so many waits of two moves on unlike cells under one root without a stone.
+fn twos(waits: usize) -> String {
+    let cell =
+        |place: usize| format!("{}{}", char::from(b'a' + (place % 13) as u8), place / 13 + 1);
+    let mut sample = format!("hex 13 13 D / m - {waits}");
+    for place in 0..waits {
+        sample += &format!(" / w 2 / m {} 0 / m {} 0", cell(2 * place), cell(2 * place + 1));
+    }
+    sample
+}
+
+/// The sample sheets P1 to P9.
+#[test]
+fn sample_sheets() {
+    assert_eq!(counts(P1), (3, 1, 2));
+    assert_eq!(sample(&P1.replace("b1", "a1")), [13, 0, 0, 1]);
+    assert_eq!(sample("hex 2 2 D / m b1 1 / w 1 / m a2 0"), [11, 3, 3, 0]);
+    assert_eq!(sample(&P1.replace("b2", "b1")), [10, 2, 2, 0]);
+    let p5 = "hex 2 2 D / m b1 2 / w 2 / m a2 0 / m b2 0 / w 2 / m a1 0 / m a2 0";
+    assert_eq!(sample(p5), [10, 2, 3, 0]);
+    assert_eq!(counts(P6), (1, 0, 1));
+    assert_eq!(sample("hex 1 1 D / m - 0"), [13, 0, 0, 0]);
+    assert_eq!(counts(P8), (7, 3, 8));
+    let p9 = P8.replace("m - 3", "m - 2").replace(" / w 2 / m a1 0 / m c2 0", "");
+    assert_eq!(sample(&p9), [13, 0, 0, 2]);
+}
+
+/// The sample plays P10 to P12 and the others.
+#[test]
+fn sample_plays() {
+    let done = |answers, over| Played { verdict: Verdict::Done, place: 0, answers, over };
+    assert_eq!(played(P1, &[3]), (done(1, true), vec![4]));
+    assert_eq!(refused(P1, &[3, 1]), (15, 2, false));
+    assert_eq!(played(P8, &[2, 5, 1]), (done(3, true), vec![3, 4, 6]));
+    assert_eq!(played(P1, &[1]), (done(1, true), vec![3]));
+    assert_eq!(refused(P1, &[2]), (17, 1, false));
+    assert_eq!(refused(P1, &[5]), (16, 1, false));
+    assert_eq!(played(P6, &[]), (done(0, true), vec![]));
+}
+
+/// Seventeen waits of two are too many outcomes, sixteen are not.
+#[test]
+fn sample_counts() {
+    assert_eq!(sample(&twos(17)), [12, 0, 0, 0]);
+    assert_eq!(sample(&twos(16)), [13, 0, 0, 0]);
+    assert_eq!(sample(&twos(64)), [12, 0, 0, 0]);
+    assert_eq!(sample(&twos(84)), [12, 0, 0, 0]);
+}
+
+/// The line printed for P8, and reply lines of the other entries.
+#[test]
+fn printed_lines() {
+    let line = |sample, ask| replies::line(&Request { work: WORKSPACE, text: text(sample), ask });
+    assert_eq!(line(P8, Ask::Judge), "0\t0\t0\t0\t7\t3\t8");
+    let play = Ask::Play { room: 3, cells: vec![2, 5, 1] };
+    assert_eq!(line(P8, play), "0\t0\t0\t0\t0\t3\t1\t3\t4\t6");
+    let play = Ask::Play { room: 2, cells: vec![3, 1] };
+    assert_eq!(line(P1, play), "15\t0\t0\t0\t2\t0\t0");
+    assert_eq!(line(P8, Ask::Outcome { room: 3, number: 5 }), "0\t0\t0\t0\t3\t3\t4\t6");
+    assert_eq!(line(P8, Ask::Outcome { room: 3, number: 8 }), "18\t0\t0\t0\t0");
+}
+
+/// The board: neighbours, numbers and the sides of the players.
+#[test]
+fn board() {
+    let two = Board { columns: 2, rows: 2 };
+    assert_eq!(two.number(2, 1), 2);
+    assert!(two.neighbours(2).any(|cell| cell == 3));
+    assert!(!two.neighbours(1).any(|cell| cell == 4));
+    let three = Board { columns: 3, rows: 3 };
+    let mut around: Vec<usize> = three.neighbours(5).collect();
+    around.sort_unstable();
+    assert_eq!(around, [2, 3, 4, 6, 7, 8]);
+    assert!(joins(three, Player::D, &[3, 5, 7]) && joins(three, Player::A, &[3, 5, 7]));
+    assert!(!joins(three, Player::D, &[1, 5, 9]) && !joins(three, Player::A, &[1, 5, 9]));
+    assert!(joins(three, Player::A, &[4, 5, 6]) && !joins(three, Player::D, &[4, 5, 6]));
+    assert!(joins(Board { columns: 5, rows: 1 }, Player::D, &[4]));
+    assert!(!joins(Board { columns: 5, rows: 1 }, Player::A, &[4]));
+    assert!(joins(Board { columns: 1, rows: 5 }, Player::A, &[4]));
+    assert!(!joins(Board { columns: 1, rows: 1 }, Player::D, &[]));
+}
+
+/// Outcomes are numbered with the last wait fastest, listed ascending, 18 before 14.
+#[test]
+fn outcome_entry() {
+    assert_eq!(listed(P8, 0, 3), (0, vec![1, 2, 4]));
+    assert_eq!(listed(P8, 1, 3), (0, vec![2, 4, 6]));
+    assert_eq!(listed(P8, 2, 3), (0, vec![1, 2, 5]));
+    assert_eq!(listed(P8, 4, 9), (0, vec![1, 3, 4]));
+    assert_eq!(listed(P8, 7, 3), (0, vec![3, 5, 6]));
+    assert_eq!(listed(P8, 8, 0), (18, vec![]));
+    assert_eq!(listed(P8, 7, 2), (14, vec![]));
+    assert_eq!(listed("hex 1 1 D / m - 0", 0, 0), (0, vec![]));
+    assert_eq!(listed(&P1.replace("b1", "a1"), 1, 2), (0, vec![1, 4]));
+    assert_eq!(listed(&twos(17), 0, 999).0, 12);
+    assert_eq!(listed(P1, u32::MAX, 999).0, 18);
+}
+
+/// The traps: first and third wait, all cells of a branch, a free move.
+#[test]
+fn traps() {
+    let first_third = "hex 4 2 D / m b1 3 / w 2 / m a2 0 / m b2 0 / w 2 / m c1 0 / m d1 0 / w 2 / m a1 0 / m b2 0";
+    assert_eq!(sample(first_third), [10, 2, 6, 0]);
+    let deep = "hex 4 2 D / m b1 1 / w 2 / m a2 0 / m b2 1 / w 2 / m a2 0 / m c2 0";
+    assert_eq!(sample(deep), [11, 3, 5, 0]);
+    assert_eq!(played(P1, &[1]).1, vec![3]);
+    let own_deep = "hex 4 2 D / m - 1 / w 2 / m a2 0 / m b2 1 / w 2 / m a1 0 / m b2 0";
+    assert_eq!(sample(own_deep), [10, 5, 6, 0]);
+}
+
+/// Readings 1 and 2: missing line feeds.
+#[test]
+fn readings_line_feeds() {
+    assert_eq!(verdict(b"hex\t2\t2\tD"), [3, 1, 0, 0]);
+    assert_eq!(verdict(b"hex\t2\t2\tD\n"), [8, 2, 0, 0]);
+    assert_eq!(verdict(b""), [3, 1, 0, 0]);
+    assert_eq!(verdict(b"\n"), [3, 1, 0, 0]);
+    assert_eq!(verdict(&half(P6)), [4, 2, 0, 0]);
+    assert_eq!(verdict(&half("hex 1 1 D / m b1 0")), [4, 2, 0, 0]);
+    assert_eq!(verdict(&half("hex 2 2 D / m b1 1 / w 2 / m a2 0 / m")), [4, 5, 0, 0]);
+    assert_eq!(sample("hex 2 2 D / m b1 1 / w 2 / m a2 0"), [8, 5, 0, 0]);
+}
+
+/// Readings 3, 5, 6, 7 and 8: one line at a time.
+#[test]
+fn readings_lines() {
+    assert_eq!(sample("hex 1 1 D / m b1 1 / x"), [5, 2, 0, 0]);
+    for line in ["m a1 2048", "w 1", "m a0 0", "m a01 0", "m a100 0", "m A1 0", "m a1 00", "m a1"] {
+        assert_eq!(sample(&format!("hex 1 1 D / {line}")), [4, 2, 0, 0]);
+    }
+    for count in ["0", "2048", "18446744073709551617", "01", "+1", ""] {
+        assert_eq!(sample(&format!("hex 1 1 D / m a1 1 / w {count}")), [4, 3, 0, 0]);
+    }
+    for cell in ["n1", "z99", "a14", "b1", "a2"] {
+        assert_eq!(sample(&format!("hex 1 1 D / m {cell} 0")), [5, 2, 0, 0]);
+    }
+    assert_eq!(sample("hex 1 1 D / m n1 2048"), [4, 2, 0, 0]);
+    assert_eq!(sample("hex 2 1 D / m a1 1 / w 2 / m - 0"), [4, 4, 0, 0]);
+    for tail in [&b"\n"[..], b"\0", b"m", b"\xff", b"m\ta1\t0\n"] {
+        assert_eq!(verdict(&[&text(P6), tail].concat()), [9, 3, 0, 0]);
+    }
+    for strange in [&b"\r"[..], b"\0", b"\xc3"] {
+        assert_eq!(verdict(&[b"hex\t1\t1\tD", strange, b"\nm\ta1\t0\n"].concat()), [3, 1, 0, 0]);
+        assert_eq!(verdict(&[b"hex\t1\t1\tD\nm\ta1\t0", strange, b"\n"].concat()), [4, 2, 0, 0]);
+    }
+}
+
+/// Reading 4: the 2,049th node line.
+#[test]
+fn readings_nodes() {
+    let with = |moves: usize, tail: &str| {
+        let mut text = text(&format!("hex 13 1 D / m a1 1 / w {moves}"));
+        for place in 0..moves.min(2_046) {
+            text.extend(if place % 2 == 0 { b"m\tb1\t0\n" } else { b"m\tc1\t0\n" });
+        }
+        text.extend(tail.bytes());
+        text
+    };
+    assert_eq!(verdict(&with(2_046, "")), [0, 0, 0, 0]);
+    assert_eq!(verdict(&with(2_046, "x")), [9, 2_050, 0, 0]);
+    assert_eq!(verdict(&with(2_047, "")), [8, 2_050, 0, 0]);
+    for tail in ["m\tb1\t0\n", "x", "\n", "\0", "m\tz1\t0\n"] {
+        assert_eq!(verdict(&with(2_047, tail)), [6, 2_050, 0, 0]);
+    }
+}
+
+/// Depth: 7 at depth 129, after 4 and before 5; readings 6 and 9.
+#[test]
+fn readings_depth() {
+    let down = |depth: usize, tail: &str| {
+        let mut text = b"hex\t2\t1\tD\n".to_vec();
+        for level in 1..=depth {
+            text.extend(if level % 2 == 1 { &b"m\ta1\t1\n"[..] } else { b"w\t1\n" });
+        }
+        text.extend(tail.bytes());
+        text
+    };
+    assert_eq!(verdict(&down(128, "m\ta1\t0\n")), [7, 130, 0, 0]);
+    assert_eq!(verdict(&down(128, "m\tz1\t0\n")), [7, 130, 0, 0]);
+    assert_eq!(verdict(&down(128, "m\t-\t0\n")), [4, 130, 0, 0]);
+    assert_eq!(verdict(&down(128, "m\ta1\t0")), [4, 130, 0, 0]);
+    assert_eq!(verdict(&down(128, "")), [8, 130, 0, 0]);
+    assert_eq!(verdict(&down(126, "m\ta1\t0\n"))[0], 10);
+}
+
+/// Texts at the length limit, and the order of 1, 2 and 3.
+#[test]
+fn lengths() {
+    let mut long = text(P6);
+    long.resize(32_768, b'x');
+    assert_eq!(verdict(&long), [9, 3, 0, 0]);
+    long.push(b'x');
+    assert_eq!(verdict(&long), [2, 0, 0, 0]);
+    assert_eq!(verdict(&vec![b'x'; 32_769]), [2, 0, 0, 0]);
+    assert_eq!(judge(&long, &mut vec![0; 8_191]).verdict, Verdict::Workspace);
+}
+
+/// Readings 10, 11, 12: outcomes are choices, 12 by count alone, 10 and 11 over the whole tree.
+#[test]
+fn readings_fair() {
+    assert_eq!(counts("hex 2 1 D / m - 1 / w 3 / m a1 0 / m a1 0 / m b1 0"), (4, 1, 3));
+    let both = "hex 5 1 D / m - 1 / w 1 / m a1 1 / w 2 / m a1 0 / m b1 0";
+    assert_eq!(sample(both), [10, 4, 1, 0]);
+    let two = "hex 5 1 D / m - 2 / w 2 / m d1 0 / m b1 0 / w 2 / m d1 0 / m b1 0";
+    assert_eq!(sample(two), [10, 2, 2, 0]);
+}
+
+/// Reading 13: the order of refusals in play.
+#[test]
+fn readings_play() {
+    let short = |sample: &str, cells: &[u32], room: usize| {
+        let mut room = vec![5; room];
+        let reply = play(&text(sample), cells, &mut room, &mut vec![7; WORKSPACE]);
+        assert!(room.iter().all(|&number| number == 5));
+        (reply.verdict.numbers()[0], reply.place, reply.over)
+    };
+    assert_eq!(short(P1, &[2, 3], 1), (14, 0, false));
+    assert_eq!(short(P1, &[0, 3], 2), (16, 1, false));
+    assert_eq!(short(P1, &[3, 0], 2), (15, 2, false));
+    assert_eq!(short(P1, &[3, 99], 9), (15, 2, false));
+    assert_eq!(short(&P1.replace("b1", "a1"), &[0, 0], 0), (13, 0, false));
+    assert_eq!(short(P8, &[2, 2], 2), (17, 2, false));
+    assert_eq!(short(P8, &[2, 3], 2), (17, 2, false));
+    assert_eq!(short(P6, &[1], 1), (15, 1, false));
+}
+
+/// Reading 14: cells of closed waits are free, and the smallest line number goes first.
+#[test]
+fn readings_open_waits() {
+    let nested = "hex 9 2 D / m b1 2 / w 2 / m c1 1 / w 2 / m d1 0 / m e1 0 / m f1 0 / w 2 / m a2 0 / m b2 0";
+    assert_eq!(counts(nested), (7, 3, 6));
+    assert_eq!(played(nested, &[9, 8]).1, vec![3, 4]);
+    assert_eq!(played(nested, &[6, 18]).1, vec![3, 4]);
+    assert_eq!(played(nested, &[4, 5]).1, vec![6, 10]);
+    assert_eq!(played(nested, &[9, 4, 11]).1, vec![3, 5, 10]);
+}
+
+/// The memory lent: the workspace is cleared except on 1, the room changes only on 0.
+#[test]
+fn memory() {
+    let mut work = vec![7; 8_191];
+    assert_eq!(judge(&text(P1), &mut work).verdict, Verdict::Workspace);
+    assert!(work.iter().all(|&number| number == 7));
+    for sheet in [text(P1), b"".to_vec(), vec![b'x'; 40_000], text("hex 1 1 D / m - 0")] {
+        let mut work = vec![7; 9_000];
+        judge(&sheet, &mut work);
+        assert!(work[..WORKSPACE].iter().all(|&number| number == 0));
+        assert!(work[WORKSPACE..].iter().all(|&number| number == 7));
+    }
+    let mut room = [5; 4];
+    play(&text(P1), &[3], &mut room, &mut vec![7; WORKSPACE]);
+    assert_eq!(room, [4, 5, 5, 5]);
+    let mut room = [9; 4];
+    outcome(&text(P8), 0, &mut room, &mut vec![7; WORKSPACE]);
+    assert_eq!(room, [1, 2, 4, 9]);
+}
+
+/// Reading 16: the root counts as a move even without a stone.
+#[test]
+fn readings_root() {
+    assert_eq!(counts("hex 2 1 D / m - 1 / w 2 / m a1 0 / m b1 0"), (3, 1, 2));
+}
+
+/// Answers some input and gives the lines.
+fn answered(input: &[u8]) -> String {
+    let mut output = Vec::new();
+    replies::answer_all(&mut Cursor::new(input), &mut output).expect("memory never fails");
+    String::from_utf8(output).expect("only digits, tabs, line feeds and one word")
+}
+
+/// Requests: the quiet end, and the word for each malformed request.
+#[test]
+fn request_lines() {
+    assert_eq!(answered(b""), "");
+    let good = b"judge\t8192\t0\n".to_vec();
+    assert_eq!(answered(&good), "3\t1\t0\t0\t0\t0\t0\n");
+    assert_eq!(answered(&[good.clone(), good.clone()].concat()), "3\t1\t0\t0\t0\t0\t0\n".repeat(2));
+    let bad: [&[u8]; 17] = [
+        b"\n",
+        b"judge\t8192\t0",
+        b"judge\t8192\n",
+        b"judge\t8192\t0\t\n",
+        b"jug\t8192\t0\n",
+        b"judge\t08192\t0\n",
+        b"judge\t9001\t0\n",
+        b"judge\t1\t65537\n",
+        b"judge\t1\t3\nab",
+        b"play\t1\t0\n",
+        b"play\t1\t0\t1001\n",
+        b"play\t1\t0\t1\t4294967296\n",
+        b"play\t1\t0\t1\t\n",
+        b"outcome\t1\t0\t1\n",
+        b"outcome\t1\t0\t1\t1\t1\n",
+        b"outcome\t1\t0\t1\t-1\n",
+        b"judge 1 0\n",
+    ];
+    for request in bad {
+        let input = [&good, request, b"judge\t8192\t0\n"].concat();
+        let stop = if request.ends_with(b"\n") {
+            &input[..]
+        } else {
+            &input[..good.len() + request.len()]
+        };
+        assert_eq!(answered(stop), "3\t1\t0\t0\t0\t0\t0\nrequest\n", "{request:?}");
+    }
+    let cells = |count: usize| format!("play\t1\t0\t0{}\n", "\t1".repeat(count));
+    assert_eq!(answered(cells(400).as_bytes()), "1\t0\t0\t0\t0\t0\t0\n");
+    assert_eq!(answered(cells(401).as_bytes()), "request\n");
+    assert_eq!(answered(b"outcome\t9000\t0\t1000\t4294967295\n"), "3\t1\t0\t0\t0\n");
+}
