@@ -400,6 +400,7 @@ fn answer_all(buffer: &mut [u8]) {
     }
 }
 
+// Answers the requests of standard input by way of a buffer.
 fn main() {
     let mut buffer = [0u8; 65536];
     answer_all(&mut buffer);

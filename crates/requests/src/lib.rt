@@ -1,5 +1,5 @@
 // requests: what is asked of a sheet. It holds the reading of a request's line, whose fields are parted by tabs, and the limits of what
-// a request may lend. It sees rules.
+// a request may lend. It sees rules and report.
 ghost use mathlib.Core.Path.{_≡_};
 ghost use Prim.Native.Nat.{_≤_};
 ghost use mathlib.Core.Bool.{true};
