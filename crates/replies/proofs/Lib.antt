@@ -1,3 +1,4 @@
 -- The laws that belong to no one function.
+pub mod Fields
 pub mod Replying
 pub mod Taking

@@ -5,12 +5,12 @@ use mathlib.Core.List.{List, [], _∷_, _++_}
 use native.Mathlib.Omega.{arith}
 use lib.ListN.{length, take, length-take}
 use Rattle.rules.specs.Text.{Bytes}
-use Rattle.requests.specs.Request.{Counted, RequestOf, LineReply}
-use Rattle.requests.specs.declared.Ask.{Ask}
-use Rattle.requests.specs.declared.Ask.the-variants as Ask
-use Rattle.requests.specs.declared.Request.{Request}
-use Rattle.requests.specs.declared.RequestRead.{RequestRead}
-use Rattle.requests.specs.declared.RequestRead.the-variants as RequestRead
+use Rattle.replies.specs.Request.{Counted, RequestOf, LineReply}
+use Rattle.replies.specs.declared.Ask.{Ask}
+use Rattle.replies.specs.declared.Ask.the-variants as Ask
+use Rattle.replies.specs.declared.Request.{Request}
+use Rattle.replies.specs.declared.RequestRead.{RequestRead}
+use Rattle.replies.specs.declared.RequestRead.the-variants as RequestRead
 use Rattle.report.specs.Decimal.{decimal}
 use Rattle.report.specs.Line.{fields, lineOf}
 use Rattle.report.specs.Writing.{Wrote, WroteWithin, Printed}

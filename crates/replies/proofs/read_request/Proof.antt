@@ -1,11 +1,11 @@
--- `requests::read_request` meets its contract: the line is its word and its numbers.
+-- `read_request` meets its contract: the line is its word and its numbers.
 use native.Mathlib.Omega.{arith}
 use mathlib.Core.Path.{sym}
 use lib.Seq.{length-take-le}
 use borrow.Author.Needs.{needs}
-use Rattle.requests.proofs.Fields.{got-ask, got-count, line-read}
-use Rattle.requests.proofs.read_request.Statement.{statement}
-use Rattle.requests.proofs.read_request.Tie as tie
+use Rattle.replies.proofs.Fields.{got-ask, got-count, line-read}
+use Rattle.replies.proofs.read_request.Statement.{statement}
+use Rattle.replies.proofs.read_request.Tie as tie
 
 pub read-request-spec : {M : Type 1} → statement M
 read-request-spec =

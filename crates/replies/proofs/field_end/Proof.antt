@@ -1,9 +1,9 @@
--- `requests::field_end` meets its contract: the search stops at a tab or at the end.
+-- `field_end` meets its contract: the search stops at a tab or at the end.
 use Prim.Native.Nat.{_≤_, _-_}
 use native.Mathlib.Omega.{arith}
 use lib.ListN.{length}
-use Rattle.requests.proofs.field_end.Statement.{statement}
-use Rattle.requests.proofs.field_end.Tie as tie
+use Rattle.replies.proofs.field_end.Statement.{statement}
+use Rattle.replies.proofs.field_end.Tie as tie
 
 abbrev Inv-loop : tie.InvT-loop
 Inv-loop line begin end₀ end = (begin ≤ end) × (end ≤ length line)

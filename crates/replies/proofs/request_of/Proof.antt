@@ -1,10 +1,10 @@
--- `requests::request_of` meets its contract: what the tests left is within the limits.
+-- `request_of` meets its contract: what the tests left is within the limits.
 use native.Mathlib.Omega.{arith}
 use mathlib.Core.Path.{refl}
 use borrow.Author.Needs.{needs}
 use borrow.Author.Tests.{not-false}
-use Rattle.requests.proofs.request_of.Statement.{statement}
-use Rattle.requests.proofs.request_of.Tie as tie
+use Rattle.replies.proofs.request_of.Statement.{statement}
+use Rattle.replies.proofs.request_of.Tie as tie
 
 pub request-of-spec : {M : Type 1} → statement M
 request-of-spec =

@@ -1,11 +1,11 @@
--- `requests::read_numbers` meets its contract: up to where a field ends, the line is the numbers read so far.
+-- `read_numbers` meets its contract: up to where a field ends, the line is the numbers read so far.
 use Prim.Native.Nat.{_-_}
 use native.Mathlib.Omega.{arith}
 use lib.ListN.{length}
 use borrow.Author.Needs.{needs}
-use Rattle.requests.proofs.Fields.{got-number, Listing, listing-none, listing-more, listing-all}
-use Rattle.requests.proofs.read_numbers.Statement.{statement}
-use Rattle.requests.proofs.read_numbers.Tie as tie
+use Rattle.replies.proofs.Fields.{got-number, Listing, listing-none, listing-more, listing-all}
+use Rattle.replies.proofs.read_numbers.Statement.{statement}
+use Rattle.replies.proofs.read_numbers.Tie as tie
 
 abbrev Inv-loop : tie.InvT-loop
 Inv-loop line at numbers₀ end₀ count₀ numbers end count = Listing line at numbers end count

@@ -1,9 +1,9 @@
--- `requests::right_count` meets its contract: each kind tests the number of numbers.
+-- `right_count` meets its contract: each kind tests the number of numbers.
 use borrow.Author.Needs.{needs}
 use borrow.Author.Tests.{eqb-true, leb-true}
-use Rattle.requests.proofs.Fields.{counted-as}
-use Rattle.requests.proofs.right_count.Statement.{statement}
-use Rattle.requests.proofs.right_count.Tie as tie
+use Rattle.replies.proofs.Fields.{counted-as}
+use Rattle.replies.proofs.right_count.Statement.{statement}
+use Rattle.replies.proofs.right_count.Tie as tie
 
 pub right-count-spec : {M : Type 1} → statement M
 right-count-spec =

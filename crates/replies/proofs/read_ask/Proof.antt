@@ -1,7 +1,7 @@
--- `requests::read_ask` meets its contract: the field is the word.
+-- `read_ask` meets its contract: the field is the word.
 use borrow.Author.Needs.{needs}
-use Rattle.requests.proofs.read_ask.Statement.{statement}
-use Rattle.requests.proofs.read_ask.Tie as tie
+use Rattle.replies.proofs.read_ask.Statement.{statement}
+use Rattle.replies.proofs.read_ask.Tie as tie
 
 pub read-ask-spec : {M : Type 1} → statement M
 read-ask-spec =

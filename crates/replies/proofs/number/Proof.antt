@@ -1,10 +1,10 @@
--- `requests::number` meets its contract: after i turns the value is what the first i digits spell.
+-- `number` meets its contract: after i turns the value is what the first i digits spell.
 use Prim.Native.Nat.{_-_}
 use native.Mathlib.Omega.{arith}
 use borrow.Author.Tests.{not-false}
-use Rattle.requests.proofs.Fields.{Scanned, scanned-none, scanned-more, scanned-all}
-use Rattle.requests.proofs.number.Statement.{statement}
-use Rattle.requests.proofs.number.Tie as tie
+use Rattle.replies.proofs.Fields.{Scanned, scanned-none, scanned-more, scanned-all}
+use Rattle.replies.proofs.number.Statement.{statement}
+use Rattle.replies.proofs.number.Tie as tie
 
 abbrev Inv-loop : tie.InvT-loop
 Inv-loop field value₀ i₀ i-end value i = Scanned field value i

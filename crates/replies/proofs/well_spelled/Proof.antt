@@ -1,11 +1,11 @@
--- `requests::well_spelled` meets its contract.
+-- `well_spelled` meets its contract.
 use mathlib.Core.Path.{_≡_}
 use Prim.Native.Nat.{ℕ}
 use borrow.Author.Needs.{needs}
 use borrow.Author.Tests.{not-true, eqb-false}
 use native.Mathlib.Omega.{arith}
-use Rattle.requests.proofs.well_spelled.Statement.{statement}
-use Rattle.requests.proofs.well_spelled.Tie as tie
+use Rattle.replies.proofs.well_spelled.Statement.{statement}
+use Rattle.replies.proofs.well_spelled.Tie as tie
 
 pub well-spelled-spec : {M : Type 1} → statement M
 well-spelled-spec =

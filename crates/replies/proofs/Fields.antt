@@ -13,17 +13,17 @@ use Rattle.report.specs.Decimal.{decimal}
 use Rattle.report.specs.Line.{fields}
 use Rattle.report.proofs.Line.{fields-append}
 use Rattle.report.proofs.Decimal.{decimal-low, decimal-high}
-use Rattle.requests.specs.Request.{Plain, NumberReply, nameOf, FieldEnd, CountOf, Counted, CountReply, AskReply, Asked, RequestReply, LineOf, LineReply}
-use Rattle.requests.specs.declared.Ask.{Ask}
-use Rattle.requests.specs.declared.Request.{Request}
-use Rattle.requests.specs.declared.RequestRead.{RequestRead}
-use Rattle.requests.specs.declared.RequestRead.the-variants as RequestRead
-use Rattle.requests.specs.declared.AskRead.{AskRead}
-use Rattle.requests.specs.declared.AskRead.the-variants as AskRead
-use Rattle.requests.specs.declared.CountRead.{CountRead}
-use Rattle.requests.specs.declared.CountRead.the-variants as CountRead
-use Rattle.requests.specs.declared.NumberRead.{NumberRead}
-use Rattle.requests.specs.declared.NumberRead.the-variants as NumberRead
+use Rattle.replies.specs.Request.{Plain, NumberReply, nameOf, FieldEnd, CountOf, Counted, CountReply, AskReply, Asked, RequestReply, LineOf, LineReply}
+use Rattle.replies.specs.declared.Ask.{Ask}
+use Rattle.replies.specs.declared.Request.{Request}
+use Rattle.replies.specs.declared.RequestRead.{RequestRead}
+use Rattle.replies.specs.declared.RequestRead.the-variants as RequestRead
+use Rattle.replies.specs.declared.AskRead.{AskRead}
+use Rattle.replies.specs.declared.AskRead.the-variants as AskRead
+use Rattle.replies.specs.declared.CountRead.{CountRead}
+use Rattle.replies.specs.declared.CountRead.the-variants as CountRead
+use Rattle.replies.specs.declared.NumberRead.{NumberRead}
+use Rattle.replies.specs.declared.NumberRead.the-variants as NumberRead
 
 -- the first i digits of a number's field spell the value
 pub record Scanned (field : Bytes) (value i : ℕ) : Type 0 where
