@@ -14,16 +14,16 @@ use Rattle.rules.proofs.Lists.{among-append}
 use Rattle.rules.proofs.Outcomes.{nth-waits, nth-first, nth-later}
 use Rattle.cells.specs.Cells.{held}
 use Rattle.nodes.specs.Nodes.{aWait, aMove, nodesOfWaits, nodesOfMoves, many, size}
-use Rattle.nodes.specs.Table.{underIn, endIn, countIn, Each, WeighedOn, At}
+use Rattle.nodes.specs.Table.{underIn, endIn, countIn, Each, WeighedRow, WeighedOn, At}
 use Rattle.nodes.proofs.Trees.{waits-count, moves-count, wait-first, move-first}
 use Rattle.outcomes.specs.Picking.{Number, MovePick, WaitPick, SomeMovePick, SomeWaitPick, Adds, MovePicked, WaitPicked}
 
 -- the count in the table is the count, where this is not too large
-wait-weight : {b : Board} {t : List ℕ} {i c : ℕ} (ms : Moves) → At (WeighedOn b t) aWait i c (nodesOfMoves ms) → countOfMoves ms ≤ 65536 → countIn t i ≡ countOfMoves ms
-wait-weight ms n p = omega (arith, n .here .weight .count, moves-count ms)
+pub wait-weight : {t : List ℕ} {i c : ℕ} (ms : Moves) → WeighedRow t aWait i c (nodesOfMoves ms) → countOfMoves ms ≤ 65536 → countIn t i ≡ countOfMoves ms
+wait-weight ms w p = omega (arith, w .count, moves-count ms)
 
-pub move-weight : {b : Board} {t : List ℕ} {i c : ℕ} (ws : Waits) → At (WeighedOn b t) aMove i c (nodesOfWaits ws) → countOfWaits ws ≤ 65536 → countIn t i ≡ countOfWaits ws
-move-weight ws n p = omega (arith, n .here .weight .count, waits-count ws)
+pub move-weight : {t : List ℕ} {i c : ℕ} (ws : Waits) → WeighedRow t aMove i c (nodesOfWaits ws) → countOfWaits ws ≤ 65536 → countIn t i ≡ countOfWaits ws
+move-weight ws w p = omega (arith, w .count, waits-count ws)
 
 -- a number below a product: both factors are above 0
 pos-left : (a b k : ℕ) → k < a * b → 0 < a
@@ -70,7 +70,7 @@ wait-step {b} {t} {start} {rows} {next} {n} {left} {k} {number} {ws} nz l = go (
         let p : 0 < countOfMoves ms = pos-left (countOfMoves ms) (countOfWaits us) k below in
         let q : 0 < countOfWaits us = pos-right (countOfMoves ms) (countOfWaits us) k below in
         let few : countOfMoves ms ≤ 65536 = omega (arith, le-mul-of-pos-right (countOfMoves ms) q, m .few) in
-        let own : countIn t next ≡ countOfMoves ms = wait-weight ms (f .0) few in
+        let own : countIn t next ≡ countOfMoves ms = wait-weight ms (f .0 .here .weight) few in
         let later : left / countIn t next ≡ countOfWaits us = rw (own, z) (mul-div-cancel-left (countOfWaits us) p) in
         let end : endIn t next ≡ next + 1 + size (nodesOfMoves ms) = f .0 .here .weight .end in
         record {
@@ -103,7 +103,7 @@ wait-step {b} {t} {start} {rows} {next} {n} {left} {k} {number} {ws} nz l = go (
 pub waits-start : {b : Board} {t : List ℕ} {i number c n left : ℕ} {ws : Waits} (rows : List ℕ) → n ≡ underIn t i → left ≡ countIn t i → MovePick b t i number c ws
     → WaitsLeft b t rows rows (i + 1) n left number number ws
 waits-start {ws = ws} rows d e p =
-    let own = move-weight ws (p .at) (p .numbered .few) in
+    let own = move-weight ws (p .at .here .weight) (p .numbered .few) in
     record {
       rest = ws;
       each = p .at .below;
@@ -164,7 +164,7 @@ move-step {b} {t} {next} {k} {number} {ms} l = go (l .rest) (l .each) (l .number
     go noMoves e m s = absurd (omega (arith, m .below))
     go (move line c ws us) e m s =
         let f = move-first line c ws us e in
-        let own : countIn t next ≡ countOfWaits ws = move-weight ws (f .0) (omega (arith, m .few)) in
+        let own : countIn t next ≡ countOfWaits ws = move-weight ws (f .0 .here .weight) (omega (arith, m .few)) in
         let end : endIn t next ≡ next + 1 + size (nodesOfWaits ws) = f .0 .here .weight .end in
         record {
           cell = c;

@@ -1,106 +1,240 @@
--- The loop over a move's outcomes: those before number n join, and the search goes on with the others.
-use mathlib.Core.Path.{_≡_, refl, sym, ap, _∙_}
+-- The search wait by wait: the moves of the wait at hand one after another, each with the outcomes that go on from it.
+use mathlib.Core.Path.{_≡_, refl, sym, ap, subst, subst⁻¹, _∙_}
 use mathlib.Core.Bool.{Bool, true, false, _||_}
-use Prim.Native.Nat.{ℕ, _+_, _<_, _≤_}
-use native.Mathlib.Numerals.{add-one}
+use Prim.Native.Nat.{ℕ, _+_, _*_, _/_, _<_, _≤_}
+use native.Mathlib.Nat.{mul-div-cancel-left, le-mul-of-pos-right, mul-comm, add-mul}
 use native.Mathlib.Omega.{arith}
-use mathlib.Core.List.{List, [], _∷_, _++_}
-use lib.ListN.{length, getD, drop, length-map, drop-of-length-le}
-use lib.Seq.{drop-cons}
+use mathlib.Core.List.{List, _++_}
+use lib.ListN.{length}
 use Rattle.rules.specs.declared.Board.{Board}
 use Rattle.rules.specs.declared.Player.{Player}
 use Rattle.rules.specs.declared.Verdict.the-variants.{NotJoined}
+use Rattle.rules.specs.Sizes.{mostOutcomes}
 use Rattle.rules.specs.Words.{among}
-use Rattle.rules.specs.Tree.{Waits, stone}
+use Rattle.rules.specs.Board.{cells}
+use Rattle.rules.specs.Tree.{Waits, noWaits, wait, Moves, noMoves, move, stone}
 use Rattle.rules.specs.Joining.{joined}
-use Rattle.rules.specs.Outcomes.{countOfWaits, outcomesOfWaits, outcomes, outcomeCount}
-use Rattle.rules.specs.Reading.{refused, got}
-use Rattle.rules.specs.Entries.{refuseUnjoined}
+use Rattle.rules.specs.Answering.{andThen}
+use Rattle.rules.specs.Outcomes.{countOfWaits, countOfMoves, outcomesOfWaits}
+use Rattle.rules.specs.Reading.{Result, refused, got}
+use Rattle.rules.specs.Entries.{_>>=_, refuseUnjoined}
+use Rattle.rules.proofs.Lists.{among-append}
 use Rattle.rules.proofs.Joining.{joined-same}
-use Rattle.rules.proofs.Outcomes.{count-waits, nth-outcome}
 use Rattle.cells.specs.Cells.{held}
-use Rattle.nodes.specs.Table.{countIn}
-use Rattle.outcomes.specs.Picking.{MovePick, SomeMovePick, MovePicked}
-use Rattle.outcomes.specs.Searching.{Countable, SomeCountable, outcomesOfMove}
-use Rattle.outcomes.proofs.Picking.{move-weight}
+use Rattle.cells.proofs.Places.{cell-range}
+use Rattle.nodes.specs.Nodes.{Kind, aWait, aMove, size, nodesOfWaits, nodesOfMoves}
+use Rattle.nodes.specs.Table.{cellIn, endIn, countIn, Each, At}
+use Rattle.nodes.proofs.Trees.{moves-count, move-first}
+use Rattle.outcomes.specs.declared.Unjoined.{Unjoined}
+use Rattle.outcomes.specs.declared.Unjoined.the-variants.{First, Nothing}
+use Rattle.outcomes.specs.Searching.{Seated, Ahead, no-more, WaitNext, Going, SomeGoing, Holds, goingOn, refusal, SearchFound, Countable, UnjoinedFound}
+use Rattle.outcomes.proofs.Picking.{wait-weight, move-weight}
+use Rattle.outcomes.proofs.GoingOn.{count-then, first-choice, going-count, search-then, all-join, none-goes-on, no-choice}
+use Rattle.outcomes.proofs.Ahead.{ahead-most, ahead-some, FirstAhead, first-ahead, none-ahead, waits-before, moves-before, then-none}
 
--- an outcome that joins is passed, and one that does not is the first
-passed : (b : Board) (p : Player) (n : ℕ) (o : List ℕ) (os : List (List ℕ)) → joined b p (among o) ≡ true → refuseUnjoined b p n (o ∷ os) ≡ refuseUnjoined b p (n + 1) os
-unfolding refuseUnjoined
-passed b p n o os e = rw (e, refuseUnjoined)
+-- a set with a stone more holds the cells with that stone
+pub holds-more : {b : Board} {rows out xs : List ℕ} (c : ℕ) → Holds b rows xs → ((x : ℕ) → held b out x ≡ (held b rows x || among (stone c) x)) → Holds b out (xs ++ stone c)
+holds-more {xs = xs} c h f =
+    record { same = λ x. f x ∙ ap (λ (v : Bool). v || among (stone c) x) (h .same x) ∙ sym (among-append x xs (stone c)) }
 
-stopped : (b : Board) (p : Player) (n : ℕ) (o : List ℕ) (os : List (List ℕ)) → joined b p (among o) ≡ false → refuseUnjoined b p n (o ∷ os) ≡ refused (NotJoined n)
-unfolding refuseUnjoined
-stopped b p n o os e = rw (e, refuseUnjoined)
+-- a set joins where its cells do
+held-joined : {b : Board} {rows xs : List ℕ} (p : Player) → Holds b rows xs → joined b p (held b rows) ≡ joined b p (among xs)
+held-joined {b} {rows} {xs} p h = joined-same b p (held b rows) (among xs) (λ y on. h .same y)
 
-none-left : (b : Board) (p : Player) (n : ℕ) → refuseUnjoined b p n [] ≡ got tt
-unfolding refuseUnjoined
-none-left b p n = refl
+-- from a set that joins nothing is refused; a set that does not, and has no wait left, is the first
+pub found-joining : {b : Board} (p : Player) {t : List ℕ} (rows : List ℕ) {end i many : ℕ} (number : ℕ) → joined b p (held b rows) ≡ true → SearchFound b p t end i many number rows Nothing
+found-joining {b} p rows number e ws xs g h = all-join b p number xs (outcomesOfWaits ws) (sym (held-joined p h) ∙ e)
 
--- the outcomes are as many as the count in the table, and each by its number
-outcomes-length : (c : ℕ) (ws : Waits) → length (outcomesOfMove c ws) ≡ countOfWaits ws
-outcomes-length c ws = length-map (outcomesOfWaits ws) (λ o. stone c ++ o) ∙ count-waits ws
+pub found-here : {b : Board} (p : Player) {t : List ℕ} (rows : List ℕ) {end i many : ℕ} (number : ℕ) {r : ℕ} → joined b p (held b rows) ≡ false → ((ws : Waits) → Ahead b t end i ws → WaitNext b t end i r ws)
+    → r ≡ end → SearchFound b p t end i many number rows (First number)
+found-here {b} p rows number {r = r} e f z ws xs g h =
+    ap (λ (us : Waits). refuseUnjoined b p number (goingOn xs (outcomesOfWaits us))) (none-ahead r z (f ws (g .ahead) .ahead))
+    ∙ none-goes-on b p number xs (sym (held-joined p h) ∙ e)
 
-nth : (b : Board) (p : Player) (c : ℕ) (ws : Waits) (n : ℕ) → n < countOfWaits ws → getD (outcomesOfMove c ws) n [] ≡ stone c ++ getD (outcomesOfWaits ws) n []
-unfolding outcomes outcomeCount
-nth b p c ws n h = nth-outcome (record { board = b; player = p; root = record { line = 0; cell = c; waits = ws } }) n h
+-- of the moves of the wait at hand the last are left, from node next on; the search among all goes on, at the number n, among what goes on from these
+pub record ChoicesLeft (b : Board) (p : Player) (t : List ℕ) (end number : ℕ) (rows : List ℕ) (ws : Waits) (after others next n : ℕ) : Type 0 where
+  pub moves : Moves
+  pub later : Waits
+  pub each : Each (Seated b t) aMove next (nodesOfMoves moves)
+  pub up-to : next + size (nodesOfMoves moves) ≡ after
+  pub ahead : Ahead b t end after later
+  pub others-are : others ≡ countOfWaits later
+  pub few : n + countOfMoves moves * others ≤ mostOutcomes
+  pub so-far : (xs : List ℕ) → Holds b rows xs → refuseUnjoined b p number (goingOn xs (outcomesOfWaits ws)) ≡ refuseUnjoined b p n (goingOn xs (outcomesOfWaits (wait 0 moves later)))
 
-module _ {b : Board} {t : List ℕ} {i c : ℕ} {ws : Waits} (m : Countable b t i c ws) where
-  count-exact : countIn t i ≡ countOfWaits ws
-  count-exact = move-weight ws (m .at) (m .few)
+-- the wait at hand: it stands in the table, and all its moves are left
+pub record ChoicesStart (b : Board) (p : Player) (t : List ℕ) (end number many : ℕ) (rows : List ℕ) (ws : Waits) (at : ℕ) : Type 0 where
+  pub room : 4 * at + 3 < length t
+  pub own : 0 < countIn t at
+  pub left : ChoicesLeft b p t end number rows ws (endIn t at) (many / countIn t at) (at + 1) number
 
-  pub numbered-pick : (n : ℕ) → n < countIn t i → MovePick b t i n c ws
-  numbered-pick n h = record { at = m .at; numbered = record { below = omega (arith, count-exact); few = m .few } }
+choices-start : {b : Board} {p : Player} {t rows : List ℕ} {end i many number at : ℕ} {ws : Waits} → Going b t end i many number ws → WaitNext b t end i at ws → ¬ (at ≡ end)
+    → ChoicesStart b p t end number many rows ws at
+unfolding countOfWaits outcomesOfWaits
+choices-start {b} {p} {t} {rows} {end} {i} {many} {number} {at} {ws} g f nz =
+    let before : at < end = omega (arith, ahead-most (f .ahead)) in
+    let a = first-ahead before (f .is-wait before) (f .ahead) in
+    let all : many ≡ countOfMoves (a .moves) * countOfWaits (a .others) = g .many-are ∙ ap countOfWaits (a .are) in
+    let some : 0 < countOfWaits (a .others) = ahead-some (a .later) in
+    let own : countIn t at ≡ countOfMoves (a .moves) = wait-weight (a .moves) (a .at .here .weight) (omega (arith, le-mul-of-pos-right (countOfMoves (a .moves)) some, g .few)) in
+    let positive : 0 < countOfMoves (a .moves) = omega (arith, a .at .here .some, moves-count (a .moves)) in
+    let others : many / countIn t at ≡ countOfWaits (a .others) = rw (own, all) (mul-div-cancel-left (countOfWaits (a .others)) positive) in
+    record {
+      room = a .at .here .weight .row .room;
+      own = omega arith;
+      left = record {
+        moves = a .moves;
+        later = a .others;
+        each = a .at .below;
+        up-to = sym (a .at .here .weight .end);
+        ahead = a .later;
+        others-are = others;
+        few = rw others (omega (arith, g .few));
+        so-far = λ xs h. ap (λ (us : Waits). refuseUnjoined b p number (goingOn xs (outcomesOfWaits us))) (a .are);
+      };
+    }
 
-  -- the picked cells join where the outcome's do
-  picked-joined : (p : Player) (n : ℕ) (before rows : List ℕ) → n < countIn t i → ((x : ℕ) → held b before x ≡ false) → MovePicked b t i n before rows
-      → joined b p (held b rows) ≡ joined b p (among (getD (outcomesOfMove c ws) n []))
-  picked-joined p n before rows h z f =
-      joined-same b p (held b rows) (among (getD (outcomesOfMove c ws) n [])) (λ y on.
-      f c ws (numbered-pick n h) .held-are y
-      ∙ ap (λ (v : Bool). v || among (stone c ++ getD (outcomesOfWaits ws) n []) y) (z y)
-      ∙ ap (λ (o : List ℕ). among o y) (sym (nth b p c ws n (omega (arith, count-exact)))))
+-- the first of the moves that are left: what goes on from it is searched, and the others are left
+pub record ChoiceStep (b : Board) (p : Player) (t : List ℕ) (end number : ℕ) (rows : List ℕ) (ws : Waits) (after others next n : ℕ) : Type 0 where
+  pub room : 4 * next + 3 < length t
+  pub on : next < endIn t next
+  pub cell-on : cellIn t next ≤ cells b
+  pub inside : next < end
+  pub few : n + countIn t next * others ≤ mostOutcomes
+  pub going : SomeGoing b t end (next + 1) (countIn t next * others) n
+  pub then : (out : List ℕ) → ((x : ℕ) → held b out x ≡ (held b rows x || among (stone (cellIn t next)) x)) → SearchFound b p t end (next + 1) (countIn t next * others) n out Nothing
+      → ChoicesLeft b p t end number rows ws after others (endIn t next) (n + countIn t next * others)
+  pub found : (k : ℕ) (out : List ℕ) → ((x : ℕ) → held b out x ≡ (held b rows x || among (stone (cellIn t next)) x)) → SearchFound b p t end (next + 1) (countIn t next * others) n out (First k)
+      → (xs : List ℕ) → Holds b rows xs → refuseUnjoined b p number (goingOn xs (outcomesOfWaits ws)) ≡ refused (NotJoined k)
 
--- the loop's invariant: the search among all the outcomes is that among those from number n on
-pub record Searching (b : Board) (p : Player) (t : List ℕ) (i count n : ℕ) : Type 0 where
-  pub turns : n ≤ count
-  pub count-is : count ≡ countIn t i
-  pub so-far : (c : ℕ) (ws : Waits) → Countable b t i c ws → refuseUnjoined b p 0 (outcomesOfMove c ws) ≡ refuseUnjoined b p n (drop n (outcomesOfMove c ws))
+choice-step : {b : Board} {p : Player} {t rows : List ℕ} {end number after others next n : ℕ} {ws : Waits} → next < after → ChoicesLeft b p t end number rows ws after others next n
+    → ChoiceStep b p t end number rows ws after others next n
+unfolding nodesOfMoves size countOfMoves _>>=_ cells
+choice-step {b} {p} {t} {rows} {end} {number} {after} {others} {next} {n} {ws} h l = go (l .moves) (l .each) (l .up-to) (l .few) (l .so-far)
+  where
+    go : (ms : Moves) → Each (Seated b t) aMove next (nodesOfMoves ms) → next + size (nodesOfMoves ms) ≡ after → n + countOfMoves ms * others ≤ mostOutcomes
+        → ((xs : List ℕ) → Holds b rows xs → refuseUnjoined b p number (goingOn xs (outcomesOfWaits ws)) ≡ refuseUnjoined b p n (goingOn xs (outcomesOfWaits (wait 0 ms (l .later)))))
+        → ChoiceStep b p t end number rows ws after others next n
+    go noMoves e u m s = absurd (omega arith)
+    go (move line c us ms) e u m s =
+        let f = move-first line c us ms e in
+        let some : 0 < others = omega (arith, l .others-are, ahead-some (l .ahead)) in
+        let sum : countOfMoves (move line c us ms) * others ≡ countOfWaits us * others + countOfMoves ms * others = add-mul (countOfWaits us) (countOfMoves ms) others in
+        let own : countIn t next ≡ countOfWaits us = move-weight us (f .0 .here .weight) (omega (arith, le-mul-of-pos-right (countOfWaits us) some)) in
+        let many : countIn t next * others ≡ countOfWaits (andThen us (l .later)) = rw (own, l .others-are) (sym (count-then us (l .later))) in
+        let up-to : next + 1 + size (nodesOfWaits us) + size (nodesOfMoves ms) ≡ after = omega arith in
+        let end-is : endIn t next ≡ next + 1 + size (nodesOfWaits us) = f .0 .here .weight .end in
+        let few : n + countIn t next * others ≤ mostOutcomes = rw own (omega arith) in
+        let going : Going b t end (next + 1) (countIn t next * others) n (andThen us (l .later)) =
+        record {
+          ahead = waits-before us (f .0 .below) (moves-before ms (f .1) (rw up-to (l .ahead)));
+          many-are = many;
+          few = few;
+        } in
+        let split : (xs : List ℕ) → Holds b rows xs → refuseUnjoined b p number (goingOn xs (outcomesOfWaits ws))
+        ≡ (refuseUnjoined b p n (goingOn (xs ++ stone c) (outcomesOfWaits (andThen us (l .later))))
+        >>= λ z. refuseUnjoined b p (n + length (goingOn (xs ++ stone c) (outcomesOfWaits (andThen us (l .later))))) (goingOn xs (outcomesOfWaits (wait 0 ms (l .later))))) =
+        λ xs k. s xs k
+        ∙ ap (λ (os : List (List ℕ)). refuseUnjoined b p n os) (first-choice xs 0 line c us ms (l .later))
+        ∙ search-then b p n (goingOn (xs ++ stone c) (outcomesOfWaits (andThen us (l .later)))) (goingOn xs (outcomesOfWaits (wait 0 ms (l .later)))) in
+        let searched : (out : List ℕ) (r : Unjoined) → ((x : ℕ) → held b out x ≡ (held b rows x || among (stone (cellIn t next)) x))
+        → SearchFound b p t end (next + 1) (countIn t next * others) n out r → (xs : List ℕ) → Holds b rows xs
+        → refuseUnjoined b p n (goingOn (xs ++ stone c) (outcomesOfWaits (andThen us (l .later)))) ≡ refusal r =
+        λ out r o q xs k.
+        q (andThen us (l .later)) (xs ++ stone c) going
+        (holds-more c k (subst (λ (y : ℕ). (x : ℕ) → held b out x ≡ (held b rows x || among (stone y) x)) (f .0 .here .weight .row .cell) o)) in
+        record {
+          room = f .0 .here .weight .row .room;
+          on = omega arith;
+          cell-on = rw (f .0 .here .weight .row .cell) (cell-range b c (f .0 .here .on) .1);
+          inside = omega (arith, ahead-most (l .ahead));
+          few = few;
+          going = (andThen us (l .later), going);
+          then = λ out o q. record {
+            moves = ms;
+            later = l .later;
+            each = rw end-is (f .1);
+            up-to = omega arith;
+            ahead = l .ahead;
+            others-are = l .others-are;
+            few = rw own (omega arith);
+            so-far = λ xs k.
+                split xs k
+                ∙ ap (λ (r : Result (Unit {0})). r >>= λ z. refuseUnjoined b p (n + length (goingOn (xs ++ stone c) (outcomesOfWaits (andThen us (l .later))))) (goingOn xs (outcomesOfWaits (wait 0 ms (l .later))))) (searched out Nothing o q xs k)
+                ∙ ap (λ (y : ℕ). refuseUnjoined b p (n + y) (goingOn xs (outcomesOfWaits (wait 0 ms (l .later))))) (going-count (xs ++ stone c) (andThen us (l .later)) ∙ sym many);
+          };
+          found = λ j out o q xs k.
+              split xs k
+              ∙ ap (λ (r : Result (Unit {0})). r >>= λ z. refuseUnjoined b p (n + length (goingOn (xs ++ stone c) (outcomesOfWaits (andThen us (l .later))))) (goingOn xs (outcomesOfWaits (wait 0 ms (l .later))))) (searched out (First j) o q xs k);
+        }
 
-pub searching-starts : {b : Board} {p : Player} {t : List ℕ} {i count : ℕ} → count ≡ countIn t i → Searching b p t i count 0
-searching-starts e = record { turns = omega arith; count-is = e; so-far = λ c ws m. refl }
+-- none is left at the wait's end
+choices-done : {b : Board} {p : Player} {t rows : List ℕ} {end number after others next n : ℕ} {ws : Waits} → after ≤ next → ChoicesLeft b p t end number rows ws after others next n
+    → (xs : List ℕ) → Holds b rows xs → refuseUnjoined b p number (goingOn xs (outcomesOfWaits ws)) ≡ got tt
+unfolding nodesOfMoves size
+choices-done {b} {p} {t} {rows} {end} {number} {after} {others} {next} {n} {ws} h l = go (l .moves) (l .up-to) (l .so-far)
+  where
+    go : (ms : Moves) → next + size (nodesOfMoves ms) ≡ after
+        → ((xs : List ℕ) → Holds b rows xs → refuseUnjoined b p number (goingOn xs (outcomesOfWaits ws)) ≡ refuseUnjoined b p n (goingOn xs (outcomesOfWaits (wait 0 ms (l .later)))))
+        → (xs : List ℕ) → Holds b rows xs → refuseUnjoined b p number (goingOn xs (outcomesOfWaits ws)) ≡ got tt
+    go noMoves u s xs k = s xs k ∙ no-choice b p n xs 0 (l .later)
+    go (move line c us ms) u s xs k = absurd (omega arith)
 
-module _ {b : Board} {p : Player} {t : List ℕ} {i count n : ℕ} (w : Searching b p t i count n) where
-  pub searching-pick : n < count → SomeCountable b t i → SomeMovePick b t i n
-  searching-pick h s = (s .0, s .1, numbered-pick (s .2) n (omega (arith, w .count-is)))
+-- the loop's invariant, whatever waits are left
+pub record Searching (b : Board) (p : Player) (t : List ℕ) (end i many number : ℕ) (rows : List ℕ) (at after others next n : ℕ) : Type 0 where
+  pub on : i < next
+  pub left : (ws : Waits) → Going b t end i many number ws → ChoicesLeft b p t end number rows ws after others next n
 
-  pub searching-small : n < count → SomeCountable b t i → n < 65536
-  searching-small h s = omega (arith, w .count-is, count-exact (s .2), s .2 .few)
+-- the wait at hand is told by its node
+abbrev pub Told : Board → List ℕ → (end i at : ℕ) → Type 0
+Told b t end i at = (ws : Waits) → Ahead b t end i ws → WaitNext b t end i at ws
 
-  next-one : n < count → (c : ℕ) (ws : Waits) → Countable b t i c ws → drop n (outcomesOfMove c ws) ≡ getD (outcomesOfMove c ws) n [] ∷ drop (n + 1) (outcomesOfMove c ws)
-  next-one h c ws m = rw add-one (drop-cons (outcomesOfMove c ws) n [] (omega (arith, w .count-is, count-exact m, outcomes-length c ws)))
+pub searching-first : {b : Board} {t : List ℕ} {end i many number at : ℕ} (p : Player) (rows : List ℕ) → Told b t end i at → ¬ (at ≡ end) → (g : SomeGoing b t end i many number)
+    → ChoicesStart b p t end number many rows (g .0) at
+searching-first p rows f nz g = choices-start (g .1) (f (g .0) (g .1 .ahead)) nz
 
-  pub searching-again : n < count → (before rows : List ℕ) → ((x : ℕ) → held b before x ≡ false) → MovePicked b t i n before rows → joined b p (held b rows) ≡ true
-      → Searching b p t i count (n + 1)
-  searching-again h before rows z f e =
+pub searching-starts : {b : Board} {p : Player} {t rows : List ℕ} {end i many number at : ℕ} → Told b t end i at → ¬ (at ≡ end) → SomeGoing b t end i many number → (own after : ℕ) → own ≡ countIn t at → after ≡ endIn t at
+    → Searching b p t end i many number rows at after (many / own) (at + 1) number
+searching-starts f nz g own after e z =
+    record {
+      on = omega (arith, f (g .0) (g .1 .ahead) .on);
+      left = λ ws h. rw (e, z) (choices-start h (f ws (h .ahead)) nz .left);
+    }
+
+module _ {b : Board} {p : Player} {t rows : List ℕ} {end i many number at after others next n : ℕ} (w : Searching b p t end i many number rows at after others next n) where
+  -- the next move
+  pub searching-step : next < after → (g : SomeGoing b t end i many number) → ChoiceStep b p t end number rows (g .0) after others next n
+  searching-step h g = choice-step h (w .left (g .0) (g .1))
+
+  pub searching-again : next < after → SomeGoing b t end i many number → (own to : ℕ) (out : List ℕ) → own ≡ countIn t next → to ≡ endIn t next
+      → ((x : ℕ) → held b out x ≡ (held b rows x || among (stone (cellIn t next)) x)) → SearchFound b p t end (next + 1) (own * others) n out Nothing
+      → Searching b p t end i many number rows at after others to (n + own * others)
+  searching-again h g own to out e z o q =
       record {
-        turns = omega arith;
-        count-is = w .count-is;
-        so-far = λ c ws m.
-            w .so-far c ws m
-            ∙ ap (λ (os : List (List ℕ)). refuseUnjoined b p n os) (next-one h c ws m)
-            ∙ passed b p n (getD (outcomesOfMove c ws) n []) (drop (n + 1) (outcomesOfMove c ws)) (sym (picked-joined m p n before rows (omega (arith, w .count-is)) z f) ∙ e);
+        on = omega (arith, w .on, searching-step h g .on);
+        left = λ ws k. rw (e, z) (choice-step h (w .left ws k) .then out o (rw e at q));
       }
 
-  pub searching-found : n < count → (before rows : List ℕ) → ((x : ℕ) → held b before x ≡ false) → MovePicked b t i n before rows → joined b p (held b rows) ≡ false
-      → (c : ℕ) (ws : Waits) → Countable b t i c ws → refuseUnjoined b p 0 (outcomesOfMove c ws) ≡ refused (NotJoined n)
-  searching-found h before rows z f e c ws m =
-      w .so-far c ws m
-      ∙ ap (λ (os : List (List ℕ)). refuseUnjoined b p n os) (next-one h c ws m)
-      ∙ stopped b p n (getD (outcomesOfMove c ws) n []) (drop (n + 1) (outcomesOfMove c ws)) (sym (picked-joined m p n before rows (omega (arith, w .count-is)) z f) ∙ e)
+  pub searching-found : next < after → (own k : ℕ) (out : List ℕ) → own ≡ countIn t next
+      → ((x : ℕ) → held b out x ≡ (held b rows x || among (stone (cellIn t next)) x)) → SearchFound b p t end (next + 1) (own * others) n out (First k)
+      → SearchFound b p t end i many number rows (First k)
+  searching-found h own k out e o q ws xs g j = choice-step h (w .left ws g) .found k out o (rw e at q) xs j
 
-  pub searching-done : count ≤ n → (c : ℕ) (ws : Waits) → Countable b t i c ws → refuseUnjoined b p 0 (outcomesOfMove c ws) ≡ got tt
-  searching-done h c ws m =
-      w .so-far c ws m
-      ∙ ap (λ (os : List (List ℕ)). refuseUnjoined b p n os) (drop-of-length-le (outcomesOfMove c ws) {i = n} (omega (arith, w .count-is, count-exact m, outcomes-length c ws)))
-      ∙ none-left b p n
+  pub searching-done : after ≤ next → SearchFound b p t end i many number rows Nothing
+  searching-done h ws xs g j = choices-done h (w .left ws g) xs j
+
+-- at a move all its waits are left, and its stone is the set
+pub whole-going : {b : Board} {t : List ℕ} {i c end many : ℕ} {ws : Waits} → Countable b t i c ws → end ≡ endIn t i → many ≡ countIn t i → Going b t end (i + 1) many 0 ws
+whole-going {b} {t} {i} {c} {end} {many} {ws} m e q =
+    record {
+      ahead = subst (λ (us : Waits). Ahead b t end (i + 1) us) (then-none ws) (waits-before ws (m .seated) (no-more (sym (e ∙ m .at .here .weight .end))));
+      many-are = q ∙ move-weight ws (m .at .here .weight) (m .few);
+      few = omega (arith, move-weight ws (m .at .here .weight) (m .few), m .few);
+    }
+
+pub whole-found : {b : Board} (p : Player) {t : List ℕ} {i end many : ℕ} (r : Unjoined) (empty out : List ℕ) (cell : ℕ) → cell ≡ cellIn t i → end ≡ endIn t i → many ≡ countIn t i
+    → ((x : ℕ) → held b empty x ≡ false) → ((x : ℕ) → held b out x ≡ (held b empty x || among (stone cell) x)) → SearchFound b p t end (i + 1) many 0 out r → UnjoinedFound b p t i r
+whole-found p r empty out cell y e q z o f c ws m =
+    let same : cell ≡ c = y ∙ m .at .here .weight .row .cell in
+    f ws (stone c) (whole-going m e q)
+    (record { same = λ x. o x ∙ ap (λ (v : Bool). v || among (stone cell) x) (z x) ∙ ap (λ (d : ℕ). among (stone d) x) same })

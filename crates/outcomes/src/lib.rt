@@ -2,7 +2,9 @@
 // rules, cells and nodes.
 ghost use Rattle.cells.specs.Cells.{Fits};
 ghost use Rattle.outcomes.specs.Picking.{SomeMovePick, SomeWaitPick, MovePicked, WaitPicked};
-ghost use Rattle.outcomes.specs.Searching.{SomeCountable, UnjoinedFound};
+ghost use Rattle.outcomes.specs.Searching.{Ahead, SomeAhead, WaitNext, SomeGoing, SearchFound, SomeCountable, UnjoinedFound};
+ghost use Rattle.rules.specs.Tree.{Waits};
+ghost use Rattle.rules.specs.declared.Board as declared;
 use cells::Cells;
 use nodes::cell_at;
 use nodes::count_at;
@@ -59,20 +61,71 @@ pub fn pick_wait(t: &[u32], board: Board, i: usize, number: usize, set: Cells) -
     pick_move(t, board, next, k, set)
 }
 
+// The first wait from node i on, past the moves that stand before it; the end where there is none.
+fn next_wait(t: &[u32], end: usize, i: usize) -> usize
+    requires { ⌜ SomeAhead (now t) end i ⌝ }
+    ensures { λ r. ⌜ ((b : declared.Board) (ws : Waits) → Ahead b (now (t .entry)) end i ws → WaitNext b (now (t .entry)) end i r ws) ⌝ }
+{
+    let mut next = i;
+    while next < end {
+        if cell_at(t, next) == 0 {
+            return next;
+        }
+        next = end_at(t, next);
+    }
+    next
+}
+
+// The first outcome that does not join among those that go on from a set by the waits from node i on; there are so many, and the first has the number.
+fn first_from(
+    t: &[u32],
+    board: Board,
+    player: Player,
+    end: usize,
+    i: usize,
+    many: usize,
+    number: usize,
+    set: Cells,
+) -> Unjoined
+    requires fits { ⌜ Fits board ⌝ }
+    requires stands { ⌜ SomeGoing board (now t) end i many number ⌝ }
+    ensures { λ r. ⌜ SearchFound board player (now (t .entry)) end i many number (set .rows) r ⌝ }
+{
+    if set.joins(board, player) {
+        return Unjoined::Nothing;
+    }
+    let wait = next_wait(t, end, i);
+    if wait == end {
+        return Unjoined::First {
+            number: number as u32,
+        };
+    }
+    let others = many / count_at(t, wait);
+    let after = end_at(t, wait);
+    let mut next = wait + 1;
+    let mut n = number;
+    while next < after {
+        let with = with_stone(set, board, cell_at(t, next));
+        let own = count_at(t, next) * others;
+        let found = first_from(t, board, player, end, next + 1, own, n, with);
+        if let Unjoined::First { number } = found {
+            return Unjoined::First { number };
+        }
+        n += own;
+        next = end_at(t, next);
+    }
+    Unjoined::Nothing
+}
+
 // The first outcome of the move at node i that does not join for the player.
 pub fn first_unjoined(t: &[u32], board: Board, player: Player, i: usize) -> Unjoined
     requires fits { ⌜ Fits board ⌝ }
     requires stands { ⌜ SomeCountable board (now t) i ⌝ }
     ensures { λ r. ⌜ UnjoinedFound board player (now (t .entry)) i r ⌝ }
 {
-    let count = count_at(t, i);
-    let mut n = 0;
-    while n < count {
-        let cells = pick_move(t, board, i, n, Cells::empty());
-        if !cells.joins(board, player) {
-            return Unjoined::First { number: n as u32 };
-        }
-        n += 1;
-    }
-    Unjoined::Nothing
+    let cell = cell_at(t, i);
+    let set = with_stone(Cells::empty(), board, cell);
+    let end = end_at(t, i);
+    let many = count_at(t, i);
+    first_from(t, board, player, end, i + 1, many, 0, set)
 }

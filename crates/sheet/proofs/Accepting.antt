@@ -8,7 +8,7 @@ use lib.ListN.{length, drop, replicate}
 use borrow.Author.Tests.{lt-ltb, le-ltb}
 use Rattle.rules.specs.Sizes.{mostOutcomes, mostNodes, leastWorkspace}
 use Rattle.rules.specs.Text.{Bytes}
-use Rattle.rules.specs.Tree.{Sheet, moveCount, waitCount}
+use Rattle.rules.specs.Tree.{Sheet, everyWait, moveCount, waitCount}
 use Rattle.rules.specs.Reading.{Result, refused, got}
 use Rattle.rules.specs.Outcomes.{outcomes, outcomeCount, countOfWaits}
 use Rattle.rules.specs.Entries.{_>>=_, refuseIf, refuseUnjoined, read, fair, satisfying, accepted, judged, judge, workspaceAfter, JudgeKept}
@@ -23,8 +23,9 @@ use Rattle.nodes.specs.Nodes.{aMove, nodesOfWaits}
 use Rattle.nodes.specs.Sheets.{HoldsSheet, SomeSheet}
 use Rattle.nodes.proofs.Table.{weighed-on-at}
 use Rattle.nodes.proofs.Trees.{waits-size}
-use Rattle.nodes.proofs.Sheets.{sheet-on-board, sheet-end}
+use Rattle.nodes.proofs.Sheets.{sheet-cells, sheet-on-board, sheet-end}
 use Rattle.outcomes.specs.Searching.{Countable, SomeCountable, UnjoinedFound, refusal}
+use Rattle.outcomes.proofs.Seating.{waits-seated}
 use Rattle.outcomes.specs.declared.Unjoined.{Unjoined}
 use Rattle.outcomes.specs.declared.Unjoined.the-variants.{First, Nothing}
 use Rattle.sheet.specs.Kept.{readText, SheetHeld, SheetReply, IsFair, FairReply, checked, IsAccepted, AcceptReply}
@@ -46,8 +47,13 @@ module _ {t : List ℕ} {b : Board} {s : Sheet} (h : HoldsSheet t b s) where
   sheet-weighed = weighed-on-at (h .root) (sheet-on-board h)
 
   pub countable : (count : ℕ) → IsFair s count → Countable b t 0 (s .root .cell) (s .root .waits)
-  unfolding outcomeCount
-  countable count f = record { at = sheet-weighed; few = omega (arith, f .counted, f .few) }
+  unfolding outcomeCount everyWait
+  countable count f =
+      record {
+        at = sheet-weighed;
+        seated = waits-seated b (s .root .waits) (sheet-cells h) (h .well .some-moves) (h .root .below);
+        few = omega (arith, f .counted, f .few);
+      }
 
   module _ (p : Player) (same : s .player ≡ p) (r : FairRead) (f : FairReply s r) where
     pub accept-refused : (v : Verdict) → r ≡ FairRead.Refused v → checked s ≡ refused v
