@@ -90,10 +90,6 @@ module _ {s : Sheet} {t moves room : List ℕ} {write : Bool} {r : PlayedOut} {t
       go (stopped v place) = refl
       go (played g) = refl
 
-  pub entry-stopped : (v : Verdict) (place : ℕ) → r ≡ Stopped v place → room ≡ roomAfter (playedOut s (rounds s (start s) 1 moves) .answers) room
-  unfolding playedOut refusedPlay roomAfter
-  entry-stopped v place e = rw (was-stopped v place e)
-
   pub entry-played : write ≡ true → (n : ℕ) (over : Bool) → r ≡ Played n over → room′ ≡ roomAfter (playedOut s (rounds s (start s) 1 moves) .answers) room
   unfolding playedOut
   entry-played w n over e =

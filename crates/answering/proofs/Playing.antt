@@ -218,12 +218,12 @@ module _ {t₀ : List ℕ} {b : Board} {p : Player} {s : Sheet} (h : Playable t�
     asked-here : Asked b t x (l .game .open-waits) (has-answer .choice)
     asked-here = record { are-open = l .are-open; is-answer = has-answer .is-answer }
 
-    pub playing-asked : SomeAsked b t x
-    playing-asked = (l .game .open-waits, has-answer .choice, asked-here)
+    pub playing-asked : SomeAsked t x
+    playing-asked = (b, l .game .open-waits, has-answer .choice, asked-here)
 
-    module _ {r : ℕ} {t′ : List ℕ} (found : (ws : Waits) (k : Choice ws) → Asked b t x ws k → Answered b t ws k r t′) where
+    module _ {r : ℕ} {t′ : List ℕ} (found : (on : Board) (ws : Waits) (k : Choice ws) → Asked on t x ws k → Answered on t ws k r t′) where
       answer-here : Answered b t (l .game .open-waits) (has-answer .choice) r t′
-      answer-here = found (l .game .open-waits) (has-answer .choice) asked-here
+      answer-here = found b (l .game .open-waits) (has-answer .choice) asked-here
 
       pub playing-rows : Remarked t t′
       playing-rows = answer-here .rows

@@ -10,7 +10,7 @@ use lib.ListN.{length, length-set}
 use lib.Seq.{getD-set-same, getD-set-other}
 use Rattle.rules.specs.declared.Board.{Board}
 use Rattle.nodes.specs.Nodes.{Nodes, noNodes, node, Kind, size}
-use Rattle.nodes.specs.Table.{countIn, RowOn, Each, At}
+use Rattle.nodes.specs.Table.{countIn, Row, Each, At}
 use Rattle.nodes.proofs.Table.{each-map}
 use Rattle.answering.specs.Rows.{Ended, EndedOn, SameRows, Remarked, withMark, Clear, Cleared, marked}
 
@@ -88,13 +88,9 @@ module _ {b : Board} {t v : List ℕ} (s : SameRows t v) where
   pub at-same : {k : Kind} {i c : ℕ} {u : Nodes} → At (EndedOn b t) k i c u → At (EndedOn b v) k i c u
   at-same n = record { here = row-same (n .here); below = each-same (n .below) }
 
--- a node that stands, as collecting its cells asks for it
-pub at-on : {b : Board} {t : List ℕ} {k : Kind} {i c : ℕ} {u : Nodes} → At (EndedOn b t) k i c u → At (RowOn b t) k i c u
-at-on n =
-    record {
-      here = record { row = n .here .row; on = n .here .on };
-      below = each-map (λ k j c u from to r. record { row = r .row; on = r .on }) (n .below);
-    }
+-- a node that stands, without its end
+pub at-row : {b : Board} {t : List ℕ} {k : Kind} {i c : ℕ} {u : Nodes} → At (EndedOn b t) k i c u → At (Row t) k i c u
+at-row n = record { here = n .here .row; below = each-map (λ k j c u from to r. r .row) (n .below) }
 
 -- where no node is marked
 pub clear-within : {t : List ℕ} {from to : ℕ} (from′ to′ : ℕ) → from ≤ from′ → to′ ≤ to → Clear t from to → Clear t from′ to′

@@ -8,16 +8,17 @@ use mathlib.Core.Logic.{inl, inr}
 use mathlib.Core.List.{List}
 use lib.ListN.{length}
 use Rattle.rules.specs.Tree.{Waits, noWaits, wait, Moves, noMoves, move}
-use Rattle.rules.specs.Fair.{inMoves, inMove}
+use Rattle.rules.specs.Fair.{inMove}
 use Rattle.rules.specs.Answering.{PlaceIn, firstMove}
 use Rattle.rules.specs.declared.Board.{Board}
-use Rattle.nodes.specs.Nodes.{aWait, aMove, nodesOfWaits, nodesOfMoves}
-use Rattle.nodes.specs.Table.{countIn, endIn, Each, SomeNode, At}
+use Rattle.nodes.specs.Nodes.{aMove, nodesOfWaits, nodesOfMoves}
+use Rattle.nodes.specs.Table.{countIn, endIn, Each, At}
 use Rattle.nodes.proofs.Trees.{move-first}
 use Rattle.answering.specs.Rows.{EndedOn}
 use Rattle.answering.specs.Marks.{Open, none-open, open-at, Opens, SomeOpen, SomeWaiting}
-use Rattle.answering.specs.Choosing.{touchedIn, nodeThere, without, Dodge, SomeDodge}
+use Rattle.answering.specs.Choosing.{namedAt, touchedIn, nodeThere, without, Dodge, SomeDodge}
 use Rattle.answering.specs.declared.Found.the-variants as found
+use Rattle.answering.proofs.Naming.{wait-named, move-named, named-room}
 use Rattle.answering.proofs.Marks.{First, open-skip, open-first, open-end, open-some}
 use Rattle.answering.proofs.Choosing.{Mapped, mapped, touched-here, touched-later, touched-none}
 
@@ -28,71 +29,69 @@ pub record WaitsLeft (b : Board) (t : List ℕ) (x i : ℕ) (ws : Waits) : Type 
   pub same : touchedIn x ws ≡ touchedIn x rest
 
 -- the loop's invariant
-pub record Looking (b : Board) (t : List ℕ) (x end i : ℕ) : Type 0 where
+pub record Looking (t : List ℕ) (x end i : ℕ) : Type 0 where
   pub end-is : end ≡ endIn t 0
-  pub left : (ws : Waits) → Opens b t ws → WaitsLeft b t x i ws
+  pub left : (b : Board) (ws : Waits) → Opens b t ws → WaitsLeft b t x i ws
 
-pub looking-starts : {b : Board} {t : List ℕ} {x end : ℕ} → end ≡ endIn t 0 → Looking b t x end 1
-looking-starts e = record { end-is = e; left = λ ws o. record { rest = ws; marks = o .marks; same = refl } }
+pub looking-starts : {t : List ℕ} {x end : ℕ} → end ≡ endIn t 0 → Looking t x end 1
+looking-starts e = record { end-is = e; left = λ b ws o. record { rest = ws; marks = o .marks; same = refl } }
 
-module _ {b : Board} {t : List ℕ} {x end i : ℕ} (l : Looking b t x end i) where
-  first-left : i < end → countIn t i ≡ 1 → (ws : Waits) (o : Opens b t ws) → First b t (endIn t 0) i (l .left ws o .rest)
-  first-left p m ws o = open-first (omega (arith, l .end-is)) (λ z. omega arith) (l .left ws o .marks)
+module _ {t : List ℕ} {x end i : ℕ} (l : Looking t x end i) where
+  first-left : i < end → countIn t i ≡ 1 → (b : Board) (ws : Waits) (o : Opens b t ws) → First b t (endIn t 0) i (l .left b ws o .rest)
+  first-left p m b ws o = open-first (omega (arith, l .end-is)) (λ z. omega arith) (l .left b ws o .marks)
 
   -- within the table
-  pub looking-room : i < end → SomeOpen b t → 4 * i + 3 < length t
+  pub looking-room : i < end → SomeOpen t → 4 * i + 3 < length t
   looking-room p s = omega (arith, l .end-is, s .are-open .within)
 
-  pub looking-wait : i < end → countIn t i ≡ 1 → SomeOpen b t → SomeNode (EndedOn b t) aWait i
-  looking-wait p m s = record { cell = 0; under = _; at = first-left p m (s .waits) (s .are-open) .here .at }
+  pub looking-wait : i < end → countIn t i ≡ 1 → SomeOpen t → (4 * i + 3 < length t) × (4 * endIn t i ≤ length t)
+  looking-wait p m s = named-room (first-left p m (s .board) (s .waits) (s .are-open) .here .at)
 
   -- no open wait is at node i
-  pub looking-skip : i < end → (countIn t i ≡ 1 → ⊥) → Looking b t x end (i + 1)
+  pub looking-skip : i < end → (countIn t i ≡ 1 → ⊥) → Looking t x end (i + 1)
   looking-skip p m =
       record {
         end-is = l .end-is;
-        left = λ ws o.
-            let d = l .left ws o in
+        left = λ b ws o.
+            let d = l .left b ws o in
             record { rest = d .rest; marks = open-skip (omega (arith, l .end-is)) m (d .marks); same = d .same };
       }
 
   -- the open wait at node i holds x
-  pub looking-found : i < end → countIn t i ≡ 1 → ((ms : Moves) → At (EndedOn b t) aWait i 0 (nodesOfMoves ms) → true ≡ inMoves ms x)
-      → (ws : Waits) → Opens b t ws → found.At i ≡ touchedIn x ws
-  looking-found p m f ws o =
-      let d = first-left p m ws o in
+  pub looking-found : i < end → countIn t i ≡ 1 → 1 ≤ x → true ≡ namedAt t i x → (b : Board) (ws : Waits) → Opens b t ws → found.At i ≡ touchedIn x ws
+  looking-found p m q f b ws o =
+      let d = first-left p m b ws o in
       let e : i ≡ d .line - 2 = omega (arith, d .here .line-is) in
       sym
-      (l .left ws o .same
+      (l .left b ws o .same
       ∙ ap (touchedIn x) (d .are)
-      ∙ touched-here x (d .line) (d .moves) (d .others) (sym (f (d .moves) (d .here .at)))
+      ∙ touched-here x (d .line) (d .moves) (d .others) (sym (f ∙ wait-named x q (d .moves) (d .here .at)))
       ∙ ap found.At (sym e))
 
   -- it does not
-  pub looking-on : i < end → countIn t i ≡ 1 → SomeOpen b t → i < endIn t i
-  looking-on p m s = omega (arith, first-left p m (s .waits) (s .are-open) .here .at .here .end)
+  pub looking-on : i < end → countIn t i ≡ 1 → SomeOpen t → i < endIn t i
+  looking-on p m s = omega (arith, first-left p m (s .board) (s .waits) (s .are-open) .here .at .here .end)
 
-  pub looking-again : i < end → countIn t i ≡ 1 → ((ms : Moves) → At (EndedOn b t) aWait i 0 (nodesOfMoves ms) → false ≡ inMoves ms x)
-      → Looking b t x end (endIn t i)
-  looking-again p m f =
+  pub looking-again : i < end → countIn t i ≡ 1 → 1 ≤ x → false ≡ namedAt t i x → Looking t x end (endIn t i)
+  looking-again p m q f =
       record {
         end-is = l .end-is;
-        left = λ ws o.
-            let d = first-left p m ws o in
+        left = λ b ws o.
+            let d = first-left p m b ws o in
             record {
               rest = d .others;
               marks = rw (d .here .at .here .end) (d .rest);
               same =
-                  l .left ws o .same
+                  l .left b ws o .same
                   ∙ ap (touchedIn x) (d .are)
-                  ∙ touched-later x (d .line) (d .moves) (d .others) (sym (f (d .moves) (d .here .at)));
+                  ∙ touched-later x (d .line) (d .moves) (d .others) (sym (f ∙ wait-named x q (d .moves) (d .here .at)));
             };
       }
 
   -- no node is left
-  pub looking-done : end ≤ i → (ws : Waits) → Opens b t ws → found.Nothing ≡ touchedIn x ws
-  looking-done p ws o =
-      let d = l .left ws o in
+  pub looking-done : end ≤ i → (b : Board) (ws : Waits) → Opens b t ws → found.Nothing ≡ touchedIn x ws
+  looking-done p b ws o =
+      let d = l .left b ws o in
       sym (d .same ∙ ap (touchedIn x) (none-left (d .marks) (omega (arith, l .end-is))) ∙ touched-none x)
     where
       none-left : {b : Board} {t : List ℕ} {n i : ℕ} {ws : Waits} → Open b t n i ws → n ≤ i → ws ≡ noWaits
@@ -179,35 +178,34 @@ move-step {b} {t} {x} {next} {place} l = go (l .rest) (l .spot) (l .each) (l .is
         }
 
 -- the loop's invariant, for the moves from node i on
-pub record Dodging (b : Board) (t : List ℕ) (i x next : ℕ) : Type 0 where
-  pub left : (ms : Moves) (p : PlaceIn ms) → Dodge b t i x ms p → MovesLeft b t x next (nodeThere i ms p)
+pub record Dodging (t : List ℕ) (i x next : ℕ) : Type 0 where
+  pub left : (b : Board) (ms : Moves) (p : PlaceIn ms) → Dodge b t i x ms p → MovesLeft b t x next (nodeThere i ms p)
 
-pub dodging-starts : (b : Board) (t : List ℕ) (i x : ℕ) → Dodging b t i x i
-dodging-starts b t i x =
+pub dodging-starts : (t : List ℕ) (i x : ℕ) → Dodging t i x i
+dodging-starts t i x =
     record {
-      left = λ ms p d. record { rest = ms; spot = p; each = d .each; is-first = d .is-first; same = refl };
+      left = λ b ms p d. record { rest = ms; spot = p; each = d .each; is-first = d .is-first; same = refl };
     }
 
-module _ {b : Board} {t : List ℕ} {i x next : ℕ} (l : Dodging b t i x next) where
-  dodging-step : (s : SomeDodge b t i x) → MoveStep b t x next (nodeThere i (s .0) (s .1))
-  dodging-step s = move-step (l .left (s .0) (s .1) (s .2))
+module _ {t : List ℕ} {i x next : ℕ} (l : Dodging t i x next) where
+  dodging-step : (s : SomeDodge t i x) → MoveStep (s .0) t x next (nodeThere i (s .1) (s .2))
+  dodging-step s = move-step (l .left (s .0) (s .1) (s .2) (s .3))
 
-  pub dodging-move : SomeDodge b t i x → SomeNode (EndedOn b t) aMove next
-  dodging-move s = record { cell = _; under = _; at = dodging-step s .at }
+  pub dodging-room : SomeDodge t i x → (4 * next + 3 < length t) × (4 * endIn t next ≤ length t)
+  dodging-room s = named-room (dodging-step s .at)
 
-  pub dodging-on : SomeDodge b t i x → next < endIn t next
+  pub dodging-on : SomeDodge t i x → next < endIn t next
   dodging-on s = omega (arith, dodging-step s .at .here .end)
 
-  pub dodging-again : ((c : ℕ) (ws : Waits) → At (EndedOn b t) aMove next c (nodesOfWaits ws) → true ≡ inMove c ws x) → Dodging b t i x (endIn t next)
-  dodging-again f =
+  pub dodging-again : 1 ≤ x → true ≡ namedAt t next x → Dodging t i x (endIn t next)
+  dodging-again q f =
       record {
-        left = λ ms p d.
-            let m = move-step (l .left ms p d) in
-            m .later (sym (f _ _ (m .at)));
+        left = λ b ms p d.
+            let m = move-step (l .left b ms p d) in
+            m .later (sym (f ∙ move-named x q (m .waits) (m .at)));
       }
 
-  pub dodging-done : ((c : ℕ) (ws : Waits) → At (EndedOn b t) aMove next c (nodesOfWaits ws) → false ≡ inMove c ws x)
-      → (ms : Moves) (p : PlaceIn ms) → Dodge b t i x ms p → next ≡ nodeThere i ms p
-  dodging-done f ms p d =
-      let m = move-step (l .left ms p d) in
-      m .here (sym (f _ _ (m .at)))
+  pub dodging-done : 1 ≤ x → false ≡ namedAt t next x → (b : Board) (ms : Moves) (p : PlaceIn ms) → Dodge b t i x ms p → next ≡ nodeThere i ms p
+  dodging-done q f b ms p d =
+      let m = move-step (l .left b ms p d) in
+      m .here (sym (f ∙ move-named x q (m .waits) (m .at)))

@@ -3,19 +3,28 @@ use mathlib.Core.Path.{_≡_}
 use mathlib.Core.Bool.{Bool, not}
 use mathlib.Core.Logic.{inl, inr}
 use mathlib.Core.Option.{some}
-use Prim.Native.Nat.{ℕ, _+_, _-_}
-use mathlib.Core.List.{List}
-use Rattle.rules.specs.Words.{if_then_else_}
+use Prim.Native.Nat.{ℕ, zero, suc, _+_, _-_}
+use mathlib.Core.List.{List, [], _∷_}
+use Rattle.rules.specs.Words.{if_then_else_, among}
 use Rattle.rules.specs.Tree.{Waits, noWaits, wait, Moves, noMoves, move}
 use Rattle.rules.specs.Fair.{inMoves, inMove}
 use Rattle.rules.specs.Answering.{PlaceIn, Choice, taken, opened, firstMove, answer}
 use Rattle.rules.specs.declared.Board.{Board}
 use Rattle.nodes.specs.Nodes.{aMove, size, nodesOfWaits, nodesOfMoves}
-use Rattle.nodes.specs.Table.{Each}
+use Rattle.nodes.specs.Table.{cellIn, endIn, Each}
 use Rattle.answering.specs.Rows.{EndedOn, Remarked}
 use Rattle.answering.specs.Marks.{Opens}
 use Rattle.answering.specs.declared.Found.{Found}
 use Rattle.answering.specs.declared.Found.the-variants as found
+
+-- the cells of n nodes, from node i on
+unfoldable pub cellsFrom : List ℕ → (i n : ℕ) → List ℕ
+cellsFrom t i zero = []
+cellsFrom t i (suc n) = cellIn t i ∷ cellsFrom t (i + 1) n
+
+-- x is named at node i or at one of the nodes under it
+unfoldable pub namedAt : List ℕ → (i x : ℕ) → Bool
+namedAt t i x = among (cellsFrom t i (endIn t i - i)) x
 
 -- the node of the first of the waits that holds x
 unfoldable pub touchedIn : ℕ → Waits → Found
@@ -48,16 +57,16 @@ pub record Dodge (b : Board) (t : List ℕ) (i x : ℕ) (ms : Moves) (p : PlaceI
   pub each : Each (EndedOn b t) aMove i (nodesOfMoves ms)
   pub is-first : firstMove (without x) ms ≡ some p
 
-abbrev pub SomeDodge : Board → List ℕ → (i x : ℕ) → Type 0
-SomeDodge b t i x = (ms : Moves) × (p : PlaceIn ms) × Dodge b t i x ms p
+abbrev pub SomeDodge : List ℕ → (i x : ℕ) → Type 0
+SomeDodge t i x = (b : Board) × (ms : Moves) × (p : PlaceIn ms) × Dodge b t i x ms p
 
 -- these waits are open, and the rule answers x with this choice
 pub record Asked (b : Board) (t : List ℕ) (x : ℕ) (ws : Waits) (k : Choice ws) : Type 0 where
   pub are-open : Opens b t ws
   pub is-answer : answer x ws ≡ some k
 
-abbrev pub SomeAsked : Board → List ℕ → ℕ → Type 0
-SomeAsked b t x = (ws : Waits) × (k : Choice ws) × Asked b t x ws k
+abbrev pub SomeAsked : List ℕ → ℕ → Type 0
+SomeAsked t x = (b : Board) × (ws : Waits) × (k : Choice ws) × Asked b t x ws k
 
 -- the nodes are those of the choice
 pub record Chosen (ws : Waits) (k : Choice ws) (w m : ℕ) : Type 0 where

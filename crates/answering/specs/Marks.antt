@@ -30,11 +30,12 @@ pub record Opens (b : Board) (t : List ℕ) (ws : Waits) : Type 0 where
   pub root : countIn t 0 ≡ 0
   pub marks : Open b t (endIn t 0) 1 ws
 
--- some waits are open
-pub record SomeOpen (b : Board) (t : List ℕ) : Type 0 where
+-- some waits are open, whatever the board
+pub record SomeOpen (t : List ℕ) : Type 0 where
+  pub board : Board
   pub waits : Waits
-  pub are-open : Opens b t waits
+  pub are-open : Opens board t waits
 
--- some wait is, whatever the board
+-- some wait is
 abbrev pub SomeWaiting : List ℕ → Type 0
 SomeWaiting t = (b : Board) × (line : ℕ) × (ms : Moves) × (ws : Waits) × Opens b t (wait line ms ws)

@@ -5,21 +5,18 @@ ghost use mathlib.Core.Bool.{true};
 ghost use Prim.Native.Nat.{ℕ, _+_, _-_, _*_, _<_, _≤_};
 ghost use lib.ListN.{length};
 ghost use Rattle.rules.specs.Tree.{Waits, wait, Moves, Sheet};
-ghost use Rattle.rules.specs.Fair.{inMoves, inMove};
 ghost use Rattle.rules.specs.Answering.{PlaceIn, Choice};
 ghost use Rattle.rules.specs.declared.Board as declared;
 ghost use Rattle.cells.specs.Cells.{held, Fits};
-ghost use Rattle.nodes.specs.Nodes.{aWait, aMove, Nodes, nodesOfWaits, nodesOfMoves};
+ghost use Rattle.nodes.specs.Nodes.{aMove, Nodes};
 ghost use Rattle.nodes.specs.Table.{endIn, At, SomeNode};
-ghost use Rattle.answering.specs.Rows.{Ended, EndedOn, withMark, Cleared, marked, Started};
+ghost use Rattle.answering.specs.Rows.{Ended, withMark, Cleared, marked, Started};
 ghost use Rattle.answering.specs.Marks.{Opens, SomeOpen, SomeWaiting};
-ghost use Rattle.answering.specs.Choosing.{touchedIn, nodeThere, Dodge, SomeDodge, Asked, SomeAsked, Chosen, Answered};
+ghost use Rattle.answering.specs.Choosing.{namedAt, touchedIn, nodeThere, Dodge, SomeDodge, Asked, SomeAsked, Chosen, Answered};
 ghost use Rattle.answering.specs.Playing.{Playable, SomePlayable, refusalOf, checked, PlaysMoves};
 use cells::Cells;
 use cells::is_cell;
 use nodes::cell_at;
-use nodes::collect_move;
-use nodes::collect_wait;
 use nodes::count_at;
 use nodes::end_at;
 use nodes::under_at;
@@ -95,36 +92,32 @@ fn open_under(t: &mut [u32], i: usize)
     }
 }
 
-// Whether the cell is one of those of the wait at node i.
-fn wait_has(t: &[u32], board: Board, i: usize, cell: usize) -> bool
-    requires { ⌜ Fits board × (1 ≤ cell) × SomeNode (EndedOn board (now t)) aWait i ⌝ }
-    ensures { λ r. ⌜ ((ms : Moves) → At (EndedOn board (now (t .entry))) aWait i 0 (nodesOfMoves ms) → r ≡ inMoves ms cell) ⌝ }
+// Whether the cell is named at node i or under it.
+fn names(t: &[u32], i: usize, cell: usize) -> bool
+    requires { ⌜ (4 * i + 3 < length (now t)) × (4 * endIn (now t) i ≤ length (now t)) ⌝ }
+    ensures { λ r. ⌜ r ≡ namedAt (now (t .entry)) i cell ⌝ }
 {
-    let all = collect_wait(t, board, i, Cells::empty());
-    let cells = all.cells;
-    cells.has(board, cell)
-}
-
-// Whether the cell is one of those of the move at node i.
-fn move_has(t: &[u32], board: Board, i: usize, cell: usize) -> bool
-    requires { ⌜ Fits board × (1 ≤ cell) × SomeNode (EndedOn board (now t)) aMove i ⌝ }
-    ensures { λ r. ⌜ ((c : ℕ) (ws : Waits) → At (EndedOn board (now (t .entry))) aMove i c (nodesOfWaits ws) → r ≡ inMove c ws cell) ⌝ }
-{
-    let all = collect_move(t, board, i, Cells::empty());
-    let cells = all.cells;
-    cells.has(board, cell)
+    let end = end_at(t, i);
+    let mut node = i;
+    while node < end {
+        if cell_at(t, node) == cell {
+            return true;
+        }
+        node += 1;
+    }
+    false
 }
 
 // The open wait that holds the cell, if one does.
-fn touched(t: &[u32], board: Board, cell: usize) -> Found
-    requires { ⌜ Fits board × (1 ≤ cell) × SomeOpen board (now t) ⌝ }
-    ensures { λ r. ⌜ ((ws : Waits) → Opens board (now (t .entry)) ws → r ≡ touchedIn cell ws) ⌝ }
+fn touched(t: &[u32], cell: usize) -> Found
+    requires { ⌜ (1 ≤ cell) × SomeOpen (now t) ⌝ }
+    ensures { λ r. ⌜ ((b : declared.Board) (ws : Waits) → Opens b (now (t .entry)) ws → r ≡ touchedIn cell ws) ⌝ }
 {
     let end = end_at(t, 0);
     let mut i = 1;
     while i < end {
         if count_at(t, i) == 1 {
-            if wait_has(t, board, i, cell) {
+            if names(t, i, cell) {
                 return Found::At(i);
             }
             i = end_at(t, i);
@@ -148,23 +141,23 @@ fn first_open(t: &[u32]) -> usize
 }
 
 // The first of the moves from node i on whose cells do not hold the cell.
-fn first_without(t: &[u32], board: Board, i: usize, cell: usize) -> usize
-    requires { ⌜ Fits board × (1 ≤ cell) × SomeDodge board (now t) i cell ⌝ }
-    ensures { λ r. ⌜ ((ms : Moves) (p : PlaceIn ms) → Dodge board (now (t .entry)) i cell ms p → r ≡ nodeThere i ms p) ⌝ }
+fn first_without(t: &[u32], i: usize, cell: usize) -> usize
+    requires { ⌜ (1 ≤ cell) × SomeDodge (now t) i cell ⌝ }
+    ensures { λ r. ⌜ ((b : declared.Board) (ms : Moves) (p : PlaceIn ms) → Dodge b (now (t .entry)) i cell ms p → r ≡ nodeThere i ms p) ⌝ }
 {
     let mut next = i;
-    while move_has(t, board, next, cell) {
+    while names(t, next, cell) {
         next = end_at(t, next);
     }
     next
 }
 
 // The nodes of the answer to a stone on the cell.
-fn answer_at(t: &[u32], board: Board, cell: usize) -> Answer
-    requires { ⌜ Fits board × (1 ≤ cell) × SomeAsked board (now t) cell ⌝ }
-    ensures { λ r. ⌜ ((ws : Waits) (k : Choice ws) → Asked board (now (t .entry)) cell ws k → Chosen ws k (r .wait) (r .node)) ⌝ }
+fn answer_at(t: &[u32], cell: usize) -> Answer
+    requires { ⌜ (1 ≤ cell) × SomeAsked (now t) cell ⌝ }
+    ensures { λ r. ⌜ ((b : declared.Board) (ws : Waits) (k : Choice ws) → Asked b (now (t .entry)) cell ws k → Chosen ws k (r .wait) (r .node)) ⌝ }
 {
-    let found = touched(t, board, cell);
+    let found = touched(t, cell);
     let Found::At(wait) = found else {
         let first = first_open(t);
         return Answer {
@@ -173,16 +166,16 @@ fn answer_at(t: &[u32], board: Board, cell: usize) -> Answer
         };
     };
     let first = wait + 1;
-    let node = first_without(t, board, first, cell);
+    let node = first_without(t, first, cell);
     Answer { wait, node }
 }
 
 // Answers a stone on the cell: the wait closes, and the waits under the answered move open.
-fn answer_to(t: &mut [u32], board: Board, cell: usize) -> usize
-    requires { ⌜ Fits board × (1 ≤ cell) × SomeAsked board (now t) cell ⌝ }
-    ensures { λ r. ⌜ ((ws : Waits) (k : Choice ws) → Asked board (now (t .entry)) cell ws k → Answered board (now (t .entry)) ws k r (now (t .exit))) ⌝ }
+fn answer_to(t: &mut [u32], cell: usize) -> usize
+    requires { ⌜ (1 ≤ cell) × SomeAsked (now t) cell ⌝ }
+    ensures { λ r. ⌜ ((b : declared.Board) (ws : Waits) (k : Choice ws) → Asked b (now (t .entry)) cell ws k → Answered b (now (t .entry)) ws k r (now (t .exit))) ⌝ }
 {
-    let a = answer_at(t, board, cell);
+    let a = answer_at(t, cell);
     let wait = a.wait;
     let node = a.node;
     set_mark(t, wait, 0);
@@ -241,7 +234,7 @@ pub fn play_moves(
         if let Refusal::With(verdict) = refused {
             return PlayedOut::Stopped { verdict, place };
         }
-        let answer = answer_to(t, board, cell);
+        let answer = answer_to(t, cell);
         mine = mine.with(board, answer);
         theirs = theirs.with(board, cell);
         if write {

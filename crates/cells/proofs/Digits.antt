@@ -6,7 +6,6 @@ use native.Mathlib.Nat.{one-mul, pow-suc, div-eq-of-lt, lt-of-lt-of-le, not-suc-
 use native.Mathlib.Numerals.{one-add}
 use native.Mathlib.Decide.{ℕ-discrete, decLt}
 use native.Mathlib.Omega.{arith}
-use lib.Arith.{bin-ind}
 use lib.Bits.{bitAnd, bitOr, and-step, or-step, and-shr, or-shr}
 use lib.Dec.{lit<}
 use lib.Pow.{shl-exact, shr-shr, field, mod-mod-pow, pow-mono}
@@ -84,20 +83,6 @@ digit-high w n k h e = go (decLt k w)
     go (no l) =
         let z : n / 2 ^ k ≡ 0 = div-eq-of-lt (lt-of-lt-of-le h (pow-mono (omega arith))) in
         omega arith
-
--- a number that is not 0 has a digit
-pub some-digit : (n : ℕ) → 0 < n → (k : ℕ) × (digit n k ≡ 1)
-some-digit =
-    bin-ind (λ (n : ℕ). 0 < n → (k : ℕ) × (digit n k ≡ 1)) (λ h. absurd (not-suc-le-zero h)) step
-  where
-    step : (n : ℕ) → (0 < n / 2 → (k : ℕ) × (digit (n / 2) k ≡ 1)) → 0 < n → (k : ℕ) × (digit n k ≡ 1)
-    step n ih h = go (ℕ-discrete (n % 2) 1)
-      where
-        go : Dec (n % 2 ≡ 1) → (k : ℕ) × (digit n k ≡ 1)
-        go (yes e) = (0, omega arith)
-        go (no e) =
-            let t : (k : ℕ) × (digit (n / 2) k ≡ 1) = ih (omega arith) in
-            (suc (t .0), sym (digit-half n (t .0)) ∙ t .1)
 
 pub digit-zero : (k : ℕ) → digit 0 k ≡ 1 → ⊥
 digit-zero k e = not-suc-le-zero (digit-high 0 0 k (lit< tt) e)

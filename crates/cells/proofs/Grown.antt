@@ -13,7 +13,7 @@ use Rattle.cells.specs.Cells.{digit}
 use Rattle.cells.specs.Rows.{In}
 use Rattle.cells.specs.Growing.{around, grownRow, newRow, grown, Near, to-left, to-right, to-up, to-down, to-up-right, to-down-left, Linked, own, next, Framed}
 use Rattle.cells.proofs.Digits.{or-l, or-r, or-one, and-both, and-l, and-r, digit-half, digit-double, digit-double-zero, digit-mod}
-use Rattle.cells.proofs.Fill.{fill-length, fill-below, fill-above}
+use Rattle.cells.proofs.Fill.{fill-below, fill-above}
 
 pub new-row : (s a : List ℕ) (i : ℕ) → 1 ≤ i → newRow s a i ≡ grownRow (getD s i 0) (getD a (i - 1) 0) (getD a i 0) (getD a (i + 1) 0)
 new-row s a zero h = absurd (not-suc-le-zero h)
@@ -128,9 +128,6 @@ near-touch a k e to-down-left = from-up-right e
 module _ (s a : List ℕ) (long : length a ≡ 21) where
   grown-row : (k : ℕ) → suc k < 20 → getD (grown s a) (suc k) 0 ≡ grownRow (getD s (suc k) 0) (getD a k 0) (getD a (suc k) 0) (getD a (suc (suc k)) 0)
   grown-row k h = fill-below (newRow s a) 20 a (suc k) h (omega arith)
-
-  pub grown-long : length (grown s a) ≡ 21
-  grown-long = fill-length (newRow s a) 20 a ∙ long
 
   -- what is there stays
   pub grown-keeps : (c r : ℕ) → In a c r → In (grown s a) c r

@@ -231,13 +231,13 @@ impl Cells {
         requires { ⌜ Fits board ⌝ }
         ensures { λ r. ⌜ r ≡ length (listed board (held board (self .rows))) ⌝ }
     {
-        let mut n: usize = 0;
+        let mut many: usize = 0;
         for i in 0..board.columns * board.rows {
             if self.has(board, i + 1) {
-                n += 1;
+                many += 1;
             }
         }
-        n
+        many
     }
 
     // Writes the cells of the set in ascending order into the first places of the room, and returns their number.

@@ -14,7 +14,7 @@ use Rattle.rules.specs.Tree.{stone}
 use Rattle.rules.specs.Words.{among}
 use Rattle.rules.proofs.Tests.{both}
 use Rattle.cells.specs.Cells.{held}
-use Rattle.nodes.specs.Nodes.{Nodes, node, Kind, other, named, inNodes, inNode}
+use Rattle.nodes.specs.Nodes.{Nodes, Kind, other, named, inNodes, inNode}
 use Rattle.nodes.specs.Table.{underIn, RowOn, SomeNode}
 use Rattle.nodes.specs.Collecting.{CollectsAny}
 use Rattle.nodes.proofs.Walk.{Walking, walking-starts, walking-again, walking-ends}

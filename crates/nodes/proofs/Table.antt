@@ -6,7 +6,7 @@ use mathlib.Core.List.{List}
 use lib.ListN.{length, getD, set, length-set}
 use lib.Seq.{getD-set-same, getD-set-other}
 use Rattle.rules.specs.declared.Board.{Board}
-use Rattle.nodes.specs.Nodes.{Nodes, node, alone, Kind, other, many, size}
+use Rattle.nodes.specs.Nodes.{Nodes, alone, Kind, many, size}
 use Rattle.nodes.specs.Table.{withNode, Property, Each, nothing, first, Row, WeighedRow, RowOn, WeighedOn, Stand, Weighed, At}
 
 -- a property of each node from i on gives another one
@@ -60,16 +60,9 @@ stand-agree a s = each-map (λ k j c u from to r. row-agree a from (omega arith)
 pub weighed-agree : {t v : List ℕ} {k : Kind} {i : ℕ} {n : Nodes} → Agree t v i (i + size n) → Weighed t k i n → Weighed v k i n
 weighed-agree a s = each-map (λ k j c u from to r. weighed-row-agree a from (omega arith) r) s
 
-pub stand-on-agree : {b : Board} {t v : List ℕ} {k : Kind} {i : ℕ} {n : Nodes} → Agree t v i (i + size n) → Each (RowOn b t) k i n → Each (RowOn b v) k i n
-stand-on-agree a s = each-map (λ k j c u from to r. record { row = row-agree a from (omega arith) (r .row); on = r .on }) s
-
 -- weighed nodes stand
 pub stand-of-weighed : {t : List ℕ} {k : Kind} {i : ℕ} {n : Nodes} → Weighed t k i n → Stand t k i n
 stand-of-weighed s = each-map (λ k j c u from to r. r .row) s
-
--- nodes that stand weighed, and with cells of the board
-pub weighed-on : {b : Board} {t : List ℕ} {k : Kind} {i : ℕ} {n : Nodes} → Weighed t k i n → Each (RowOn b t) k i n → Each (WeighedOn b t) k i n
-weighed-on s r = each-both (λ k j c u p q. record { weight = p; on = q .on }) s r
 
 pub weighed-on-at : {b : Board} {t v : List ℕ} {k : Kind} {i c : ℕ} {u : Nodes} → At (WeighedRow v) k i c u → At (RowOn b t) k i c u → At (WeighedOn b v) k i c u
 weighed-on-at n m =
@@ -77,9 +70,6 @@ weighed-on-at n m =
       here = record { weight = n .here; on = m .here .on };
       below = each-both (λ k j c u p q. record { weight = p; on = q .on }) (n .below) (m .below);
     }
-
-pub on-of-weighed : {b : Board} {t : List ℕ} {k : Kind} {i : ℕ} {n : Nodes} → Each (WeighedOn b t) k i n → Each (RowOn b t) k i n
-on-of-weighed s = each-map (λ k j c u from to r. record { row = r .weight .row; on = r .on }) s
 
 -- a row stored is there, and the rows of other nodes stay
 pub stored-row : (t : List ℕ) (k : Kind) (i c n : ℕ) (u : Nodes) → 4 * i + 3 < length t → many u ≡ n → Row (withNode t i c n) k i c u
@@ -100,9 +90,6 @@ stored t i c n from to f =
 
 pub stored-before : (t : List ℕ) (i c n from to : ℕ) → to ≤ i → Agree t (withNode t i c n) from to
 stored-before t i c n from to p = stored t i c n from to (λ m lo hi. (λ e. omega arith, λ e. omega arith))
-
-pub stored-after : (t : List ℕ) (i c n from to : ℕ) → i < from → Agree t (withNode t i c n) from to
-stored-after t i c n from to p = stored t i c n from to (λ m lo hi. (λ e. omega arith, λ e. omega arith))
 
 -- nodes that stand in the table end in it
 pub stand-end : {t : List ℕ} {k : Kind} {i : ℕ} {n : Nodes} → 4 * i ≤ length t → Stand t k i n → 4 * (i + size n) ≤ length t

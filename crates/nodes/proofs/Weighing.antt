@@ -5,9 +5,8 @@ use native.Mathlib.Omega.{arith}
 use mathlib.Core.List.{List}
 use lib.ListN.{length, getD, set, length-set}
 use lib.Seq.{getD-set-same, getD-set-other}
-use Rattle.rules.specs.declared.Board.{Board}
-use Rattle.nodes.specs.Nodes.{Nodes, noNodes, node, alone, Kind, aWait, aMove, other, counted, nothingCounted, many, size, countOf, limited}
-use Rattle.nodes.specs.Table.{underIn, withWeight, Each, nothing, first, Row, WeighedRow, RowOn, Stand, Weighed, At, SomeNode}
+use Rattle.nodes.specs.Nodes.{Nodes, noNodes, node, alone, Kind, aWait, aMove, other, counted, nothingCounted, size, countOf, limited}
+use Rattle.nodes.specs.Table.{underIn, withWeight, nothing, first, Row, WeighedRow, Stand, Weighed, At, SomeNode}
 use Rattle.nodes.specs.Weighing.{withOwn, weighed, Weighs, WeighsAny}
 use Rattle.nodes.proofs.Limited.{limited-left, limited-right, counted-assoc, counted-nothing, counted-last}
 use Rattle.nodes.proofs.Table.{each-map, Agree, agree-within, row-agree, weighed-row-agree, stand-agree, weighed-agree, node-end, alone-at}
@@ -72,15 +71,9 @@ weighed-row k n i t {l} {j} r =
 pub weighed-stand : (k : Kind) (n : Nodes) (i : ℕ) (t : List ℕ) {l : Kind} {j : ℕ} {w : Nodes} → Stand t l j w → Stand (weighed k n i t) l j w
 weighed-stand k n i t s = each-map (λ l j c u from to r. weighed-row k n i t r) s
 
-pub weighed-stand-on : {b : Board} (k : Kind) (n : Nodes) (i : ℕ) (t : List ℕ) {l : Kind} {j : ℕ} {w : Nodes} → Each (RowOn b t) l j w → Each (RowOn b (weighed k n i t)) l j w
-weighed-stand-on k n i t s = each-map (λ l j c u from to r. record { row = weighed-row k n i t (r .row); on = r .on }) s
-
 -- and what stands before the weighed nodes, or after them, is as it was
 pub weighed-before : (k : Kind) (n : Nodes) (i from : ℕ) (t : List ℕ) → Agree t (weighed k n i t) from i
 weighed-before k n i from t = record { long = weighed-long k n i t; same = λ m lo hi. weighed-kept k n i t m (kept-before hi) }
-
-pub weighed-after : (k : Kind) (n : Nodes) (i to : ℕ) (t : List ℕ) → Agree t (weighed k n i t) (i + size n) to
-weighed-after k n i to t = record { long = weighed-long k n i t; same = λ m lo hi. weighed-kept k n i t m (kept-after lo) }
 
 -- a node's own end and count are stored: it has them, and all under it is as it was
 own-row : (t : List ℕ) (k : Kind) (i c : ℕ) (u : Nodes) → Row t k i c u → WeighedRow (withOwn k u i t) k i c u
@@ -129,10 +122,6 @@ weighs-at {k} {t} {i} {c} {u} w n = rw (w .table-is) (alone-at (weighed-there k 
 
 pub weighs-long : {k : Kind} {t : List ℕ} {i c : ℕ} {u : Nodes} {count next : ℕ} {out : List ℕ} → Weighs k t i c u count next out → length out ≡ length t
 weighs-long {k} {t} {i} {c} {u} w = ap length (w .table-is) ∙ weighed-long k (alone c u) i t
-
-pub weighs-kept : {k : Kind} {t : List ℕ} {i c : ℕ} {u : Nodes} {count next : ℕ} {out : List ℕ} → Weighs k t i c u count next out → (m : ℕ) → Kept i next m → getD out m 0 ≡ getD t m 0
-unfolding size
-weighs-kept {k} {t} {i} {c} {u} w m h = rw (w .table-is) (weighed-kept k (alone c u) i t m (kept-within (omega arith) (omega (arith, w .next-is)) h))
 
 pub weighs-small : {k : Kind} {t : List ℕ} {i count next : ℕ} {out : List ℕ} → SomeNode (Row t) k i → WeighsAny k t i count next out → count ≤ 65537
 weighs-small n h = omega (arith, h _ _ (n .at) .count-is)

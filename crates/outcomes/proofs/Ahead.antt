@@ -1,5 +1,5 @@
 -- What stands from a node up to the end: the next wait, the waits under a move before the others, and how many outcomes there are.
-use mathlib.Core.Path.{_≡_, refl, sym, ap, subst, _∙_}
+use mathlib.Core.Path.{_≡_, refl, ap, subst}
 use Prim.Native.Nat.{ℕ, _+_, _*_, _<_, _≤_}
 use native.Mathlib.Nat.{mul-pos}
 use native.Mathlib.Omega.{arith}
@@ -8,7 +8,7 @@ use lib.ListN.{length}
 use Rattle.rules.specs.declared.Board.{Board}
 use Rattle.rules.specs.Tree.{Waits, noWaits, wait, Moves, noMoves, move}
 use Rattle.rules.specs.Answering.{andThen}
-use Rattle.rules.specs.Outcomes.{countOfWaits, countOfMoves}
+use Rattle.rules.specs.Outcomes.{countOfWaits}
 use Rattle.cells.proofs.Places.{cell-range}
 use Rattle.nodes.specs.Nodes.{aWait, aMove, size, nodesOfWaits, nodesOfMoves}
 use Rattle.nodes.specs.Table.{cellIn, endIn, Each, At}

@@ -14,7 +14,7 @@ use Rattle.rules.proofs.Lists.{among-append}
 use Rattle.rules.proofs.Outcomes.{nth-waits, nth-first, nth-later}
 use Rattle.cells.specs.Cells.{held}
 use Rattle.nodes.specs.Nodes.{aWait, aMove, nodesOfWaits, nodesOfMoves, many, size}
-use Rattle.nodes.specs.Table.{underIn, endIn, countIn, Each, WeighedRow, WeighedOn, At}
+use Rattle.nodes.specs.Table.{underIn, endIn, countIn, Each, WeighedRow, WeighedOn}
 use Rattle.nodes.proofs.Trees.{waits-count, moves-count, wait-first, move-first}
 use Rattle.outcomes.specs.Picking.{Number, MovePick, WaitPick, SomeMovePick, SomeWaitPick, Adds, MovePicked, WaitPicked}
 

@@ -1,8 +1,8 @@
 -- The search wait by wait: the moves of the wait at hand one after another, each with the outcomes that go on from it.
-use mathlib.Core.Path.{_≡_, refl, sym, ap, subst, subst⁻¹, _∙_}
+use mathlib.Core.Path.{_≡_, sym, ap, subst, _∙_}
 use mathlib.Core.Bool.{Bool, true, false, _||_}
 use Prim.Native.Nat.{ℕ, _+_, _*_, _/_, _<_, _≤_}
-use native.Mathlib.Nat.{mul-div-cancel-left, le-mul-of-pos-right, mul-comm, add-mul}
+use native.Mathlib.Nat.{mul-div-cancel-left, le-mul-of-pos-right, add-mul}
 use native.Mathlib.Omega.{arith}
 use mathlib.Core.List.{List, _++_}
 use lib.ListN.{length}
@@ -12,7 +12,7 @@ use Rattle.rules.specs.declared.Verdict.the-variants.{NotJoined}
 use Rattle.rules.specs.Sizes.{mostOutcomes}
 use Rattle.rules.specs.Words.{among}
 use Rattle.rules.specs.Board.{cells}
-use Rattle.rules.specs.Tree.{Waits, noWaits, wait, Moves, noMoves, move, stone}
+use Rattle.rules.specs.Tree.{Waits, wait, Moves, noMoves, move, stone}
 use Rattle.rules.specs.Joining.{joined}
 use Rattle.rules.specs.Answering.{andThen}
 use Rattle.rules.specs.Outcomes.{countOfWaits, countOfMoves, outcomesOfWaits}
@@ -22,15 +22,15 @@ use Rattle.rules.proofs.Lists.{among-append}
 use Rattle.rules.proofs.Joining.{joined-same}
 use Rattle.cells.specs.Cells.{held}
 use Rattle.cells.proofs.Places.{cell-range}
-use Rattle.nodes.specs.Nodes.{Kind, aWait, aMove, size, nodesOfWaits, nodesOfMoves}
-use Rattle.nodes.specs.Table.{cellIn, endIn, countIn, Each, At}
+use Rattle.nodes.specs.Nodes.{aMove, size, nodesOfWaits, nodesOfMoves}
+use Rattle.nodes.specs.Table.{cellIn, endIn, countIn, Each}
 use Rattle.nodes.proofs.Trees.{moves-count, move-first}
 use Rattle.outcomes.specs.declared.Unjoined.{Unjoined}
 use Rattle.outcomes.specs.declared.Unjoined.the-variants.{First, Nothing}
 use Rattle.outcomes.specs.Searching.{Seated, Ahead, no-more, WaitNext, Going, SomeGoing, Holds, goingOn, refusal, SearchFound, Countable, UnjoinedFound}
 use Rattle.outcomes.proofs.Picking.{wait-weight, move-weight}
 use Rattle.outcomes.proofs.GoingOn.{count-then, first-choice, going-count, search-then, all-join, none-goes-on, no-choice}
-use Rattle.outcomes.proofs.Ahead.{ahead-most, ahead-some, FirstAhead, first-ahead, none-ahead, waits-before, moves-before, then-none}
+use Rattle.outcomes.proofs.Ahead.{ahead-most, ahead-some, first-ahead, none-ahead, waits-before, moves-before, then-none}
 
 -- a set with a stone more holds the cells with that stone
 pub holds-more : {b : Board} {rows out xs : List ℕ} (c : ℕ) → Holds b rows xs → ((x : ℕ) → held b out x ≡ (held b rows x || among (stone c) x)) → Holds b out (xs ++ stone c)

@@ -1,5 +1,5 @@
 -- The waits of a sheet that reads are seated: each move has its cell of the board, and each wait a move, so that all have an outcome.
-use mathlib.Core.Path.{_≡_, refl}
+use mathlib.Core.Path.{refl}
 use mathlib.Core.Logic.{_≢_}
 use Prim.Native.Nat.{ℕ, _≤_}
 use native.Mathlib.Nat.{mul-pos}

@@ -1,14 +1,14 @@
 -- A body that was read: what rules' `readBody` comes to, from what was stored.
 use mathlib.Core.Path.{_≡_, refl, sym, ap, _∙_, subst, subst⁻¹}
-use Prim.Native.Nat.{ℕ, zero, suc, _+_, _≤_, _<_}
+use Prim.Native.Nat.{ℕ, _≤_, _<_}
 use native.Mathlib.Omega.{arith}
 use mathlib.Core.List.{List, [], _∷_}
-use lib.ListN.{length, drop, getD, drop-of-length-le}
+use lib.ListN.{length, drop-of-length-le}
 use lib.Seq.{drop-cons}
-use Rattle.rules.specs.Sizes.{mostDepth, leastWorkspace}
+use Rattle.rules.specs.Sizes.{mostDepth}
 use Rattle.rules.specs.Text.{Bytes, _orElse_}
-use Rattle.rules.specs.Lines.{Header, moveLine, dashLine}
-use Rattle.rules.specs.Tree.{Move, Sheet}
+use Rattle.rules.specs.Lines.{moveLine, dashLine}
+use Rattle.rules.specs.Tree.{Move}
 use Rattle.rules.specs.Reading as R
 use Rattle.rules.specs.Reading.{Result, refused, got, readMove, ended, readBody}
 use Rattle.rules.specs.declared.Board.{Board}
@@ -22,13 +22,13 @@ use Rattle.nodes.specs.Table.{Row, At}
 use Rattle.lines.specs.declared.Kind.the-variants as K
 use Rattle.reading.specs.Spots.{spotOf, Ready}
 use Rattle.reading.specs.Storing.{Stored, storeNode}
-use Rattle.reading.specs.Kept.{readSeen, ReadyAfter, ReadKept, bodySpot, BodyReady, BodyStands, BodyReply, BodyKept}
+use Rattle.reading.specs.Kept.{readSeen, ReadyAfter, ReadKept, bodySpot, BodyReady, BodyKept}
 use Rattle.reading.specs.declared.Spot as code
 use Rattle.reading.specs.declared.Read.{Read}
 use Rattle.reading.specs.declared.Read.the-variants as Read
 use Rattle.reading.specs.declared.BodyRead.{BodyRead}
 use Rattle.reading.specs.declared.BodyRead.the-variants as BodyRead
-use Rattle.reading.proofs.Standing.{Fine, NodeStored, OneSame, MoveSame, moves-same}
+use Rattle.reading.proofs.Standing.{OneSame, MoveSame, moves-same}
 
 pub body-ready : (b : Board) (body : Bytes) (t : List ℕ) → BodyReady b body t → Ready b body (record { at = 0; line = 2; nodes = 0 })
 body-ready b body t r =

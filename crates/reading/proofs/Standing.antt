@@ -1,6 +1,6 @@
 -- Storing and reading come to the same: where rules reads a node, the table holds it; where rules refuses, the code does.
-use mathlib.Core.Path.{_≡_, refl, sym, ap, ap₂, _∙_, subst, subst⁻¹}
-use Prim.Native.Nat.{ℕ, zero, suc, _+_, _*_, _-_, _≤_, _<_}
+use mathlib.Core.Path.{_≡_, refl, ap, _∙_, subst, subst⁻¹}
+use Prim.Native.Nat.{ℕ, zero, suc, _+_, _-_, _≤_, _<_}
 use native.Mathlib.Omega.{arith}
 use mathlib.Core.List.{List, [], _∷_}
 use mathlib.Core.Bool.{Bool, true, false}
@@ -8,9 +8,9 @@ use lib.ListN.{length}
 use lib.Dec.{ltb}
 use borrow.Author.Tests.{ltb-true, ltb-false}
 use Rattle.rules.specs.Sizes.{mostNodes, leastWorkspace}
-use Rattle.rules.specs.Text.{Bytes, Reader}
+use Rattle.rules.specs.Text.{Reader}
 use Rattle.rules.specs.Lines.{Line, waitLine, moveLine}
-use Rattle.rules.specs.Tree.{Waits, noWaits, wait, Moves, noMoves, move, Wait, Move, asWaits, asMoves}
+use Rattle.rules.specs.Tree.{Wait, Move, asWaits, asMoves}
 use Rattle.rules.specs.Reading.{Result, refused, got, Spot, Reading, Node, go, give, cellOf, nodeLine, inTurn, readMove, readWait}
 use Rattle.rules.specs.declared.Board.{Board}
 use Rattle.rules.proofs.Reading.{NodeRead, node-read, wait-says}

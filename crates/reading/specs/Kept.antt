@@ -5,7 +5,7 @@ use mathlib.Core.List.{List}
 use Rattle.rules.specs.Text.{Bytes}
 use lib.ListN.{length}
 use Rattle.rules.specs.Sizes.{mostBytes, mostDepth, leastWorkspace}
-use Rattle.rules.specs.Tree.{Move, Sheet}
+use Rattle.rules.specs.Tree.{Move}
 use Rattle.rules.specs.Reading.{Result, refused, got, nodeLine, readBody}
 use Rattle.rules.specs.declared.Player.{Player}
 use Rattle.cells.specs.Cells.{Fits}
@@ -14,7 +14,6 @@ use Rattle.nodes.specs.Table.{Row, At}
 use Rattle.lines.specs.declared.Kind.the-variants.{First}
 use Rattle.rules.specs.Reading as R
 use Rattle.rules.specs.declared.Board.{Board}
-use Rattle.rules.specs.declared.Verdict.{Verdict}
 use Rattle.lines.specs.Parts.{lineOf}
 use Rattle.lines.specs.declared.Kind.{Kind}
 use Rattle.reading.specs.Spots.{spotOf, Ready}

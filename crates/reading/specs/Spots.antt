@@ -1,6 +1,5 @@
 -- Where the reading stands, as the code has it and as rules has it.
-use mathlib.Core.Path.{_≡_}
-use Prim.Native.Nat.{ℕ, _+_, _≤_}
+use Prim.Native.Nat.{_+_, _≤_}
 use lib.ListN.{length, drop}
 use Rattle.rules.specs.Sizes.{mostNodes, mostBytes}
 use Rattle.rules.specs.Text.{Bytes}

@@ -1,12 +1,8 @@
 -- Reading into the table: what the reading of rules comes to without its tree, and the table after it, refused or not.
 use Prim.Native.Nat.{ℕ, zero, suc}
-use mathlib.Core.List.{List, [], _∷_}
-use Rattle.rules.specs.Sizes.{mostDepth}
-use Rattle.rules.specs.Text.{Bytes}
+use mathlib.Core.List.{List}
 use Rattle.rules.specs.Reading.{Result, refused, got, Spot, Node, nodeLine}
 use Rattle.rules.specs.declared.Board.{Board}
-use Rattle.rules.specs.declared.Verdict.{Verdict}
-use Rattle.rules.specs.declared.Verdict.the-variants.{TextAfter}
 use Rattle.nodes.specs.Table.{withNode}
 use Rattle.lines.specs.Parts.{lineOf}
 use Rattle.lines.specs.declared.Kind.{Kind}

@@ -1,16 +1,16 @@
 -- The answering rule answers, and its answer is one that the holder may take.
 use mathlib.Core.Path.{_≡_, refl, sym, ap, _∙_, subst}
-use mathlib.Core.Bool.{Bool, true, false, not, cond, _&&_, _||_}
+use mathlib.Core.Bool.{Bool, false, not, _||_}
 use mathlib.Core.Logic.{_⊎_, inl, inr, ⊎-elim}
-use mathlib.Core.Option.{Option, none, some, Option·map}
-use Prim.Native.Nat.{ℕ, zero, suc, _+_, _≤_, _<_, min}
+use mathlib.Core.Option.{Option, some, Option·map}
+use Prim.Native.Nat.{ℕ, _≤_, min}
 use native.Mathlib.Omega.{arith}
 use lib.Dec.{T, eqb, leb, leb→le, eqb-refl, nleb→lt, not-T, T-not}
 use Rattle.rules.specs.Tree.{Waits, noWaits, wait, Moves, noMoves, move}
 use Rattle.rules.specs.Fair.{inWaits, inMoves, inMove, inEvery}
 use Rattle.rules.specs.Answering.{PlaceIn, cellThere, waitsThere, Choice, waitHolds, moveHolds, allowed, firstMove, firstUnder, smallestLine, firstLine, touchedAnswer, freeAnswer, answer}
-use Rattle.rules.proofs.Tests.{decide, both, fst, snd, left, right, cases, nor-left, nor-right, nand, twice, cond-yes, cond-no}
-use Rattle.rules.proofs.Opening.{Elusive, FairWaits, FairMoves, waitsIn, at-in, wait-in}
+use Rattle.rules.proofs.Tests.{decide, both, fst, snd, left, right, cases, nand, twice, cond-yes, cond-no}
+use Rattle.rules.proofs.Opening.{Elusive, FairWaits, waitsIn, at-in}
 
 -- a choice that `firstUnder` finds, with what is to be said of it
 pub record Finds (which : ℕ → Moves → Bool) (test : ℕ → Waits → Bool) (P : (ws : Waits) → Choice ws → Type 0) (ws : Waits) : Type 0 where

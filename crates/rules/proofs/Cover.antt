@@ -1,28 +1,28 @@
 -- Demand 3: the invariant of every game that an accepted sheet leads to, and the cover's sentence from it.
-use mathlib.Core.Path.{_≡_, refl, sym, ap, _∙_, subst, subst⁻¹}
-use mathlib.Core.Bool.{Bool, true, false, not, _&&_, _||_}
+use mathlib.Core.Path.{_≡_, refl, sym, subst, subst⁻¹}
+use mathlib.Core.Bool.{false, not, _||_}
 use mathlib.Core.List.{List, [], _∷_, _++_, append-nil, append-assoc}
 use mathlib.Core.Logic.{_≢_, _⊎_, inl, inr, ⊎-elim}
-use mathlib.Core.Option.{Option, none, some}
-use Prim.Native.Nat.{ℕ, zero, suc, _+_, _≤_, _<_}
+use mathlib.Core.Option.{none, some}
+use Prim.Native.Nat.{ℕ, zero, suc, _+_, _≤_}
 use native.Mathlib.Omega.{arith}
 use borrow.Author.Tests.{le-ltb}
-use lib.Dec.{T, eqb, eqb→eq, eqb-refl, leb, ltb, not-T, T-not}
+use lib.Dec.{T, eqb, eqb→eq, eqb-refl, not-T, T-not}
 use lib.ListN.{length, length-append}
 use Rattle.rules.specs.Words.{_∈_, at-head, in-tail, among}
-use Rattle.rules.specs.Board.{cells, isCell}
+use Rattle.rules.specs.Board.{isCell}
 use Rattle.rules.specs.Text.{Bytes}
 use Rattle.rules.specs.Joining.{joined}
 use Rattle.rules.specs.Tree.{Waits, noWaits, wait, Moves, noMoves, move, Wait, Move, Sheet, stone, movesOfWaits, movesOfMoves, waitsOfWaits, waitsOfMoves, everyMove, everyWait, waitCount}
-use Rattle.rules.specs.Reading.{Result, refused, got}
+use Rattle.rules.specs.Reading.{got}
 use Rattle.rules.specs.Fair.{inWaits, inMoves, inMove, holding, inEvery}
 use Rattle.rules.specs.Outcomes.{outcomes, outcomesOfWaits}
-use Rattle.rules.specs.Answering.{Choice, taken, opened, waitHolds, moveHolds, allowed, answer, Game, start, mine, isOver, isTaken, isEmpty, next, answeredBy, answered}
-use Rattle.rules.specs.Entries.{accepted, _>>=_, refuseIf, step, Rounds, played, rounds, playedOut, playOn, play}
-use Rattle.rules.specs.Plain.{IsApart, IsElusive, IsSheet, WellRead}
-use Rattle.rules.specs.Promise.{Chosen, no-round, round, Ruled, no-move, one-move, Covered, HasChoice, HasAnswer, PlaysOut, Demand3, Demand3Chosen, Demand3Played, Demand3Joined}
+use Rattle.rules.specs.Answering.{Choice, taken, opened, allowed, answer, Game, start, mine, isOver, isTaken, isEmpty, next, answeredBy, answered}
+use Rattle.rules.specs.Entries.{_>>=_, refuseIf, step, played, rounds, playedOut, playOn, play}
+use Rattle.rules.specs.Plain.{IsApart, IsElusive, IsSheet}
+use Rattle.rules.specs.Promise.{Chosen, no-round, round, Ruled, no-move, one-move, Covered, Demand3, Demand3Chosen, Demand3Played, Demand3Joined}
 use Rattle.rules.specs.declared.Board.{Board}
-use Rattle.rules.proofs.Tests.{true-of, false-of, decide, both, fst, snd, left, right, cases, nor, nor-left, nor-right}
+use Rattle.rules.proofs.Tests.{true-of, false-of, decide, both, fst, snd, left, cases, nor}
 use Rattle.rules.proofs.Lists.{in-append, in-first, in-second, append-left, append-right}
 use Rattle.rules.proofs.Joining.{joined-more, joins→joined}
 use Rattle.rules.proofs.WellRead.{well-read}

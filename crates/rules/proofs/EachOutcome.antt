@@ -1,7 +1,7 @@
 -- A property of each outcome, and what becomes of it when a choice opens other waits.
-use mathlib.Core.Path.{_≡_, refl, subst}
+use mathlib.Core.Path.{subst}
 use mathlib.Core.List.{List, [], _∷_, _++_, map, append-assoc}
-use mathlib.Core.Logic.{_⊎_, inl, inr}
+use mathlib.Core.Logic.{inl, inr}
 use Prim.Native.Nat.{ℕ, zero, suc}
 use lib.Dec.{T, eqb}
 use Rattle.rules.specs.Words.{_∈_, at-head, in-tail, among}

@@ -1,9 +1,9 @@
 -- Judge's reply is the one that the table gives: each case exactly when its plain statement holds.
-use mathlib.Core.Path.{_≡_, refl, sym, ap, subst, subst⁻¹, _∙_}
-use mathlib.Core.Logic.{_⊎_, inl, inr, _↔_}
+use mathlib.Core.Path.{_≡_, refl, ap, subst, subst⁻¹, _∙_}
+use mathlib.Core.Logic.{inl, inr, _↔_}
 use Prim.Native.Nat.{ℕ, zero, suc, _+_, _≤_, _<_}
-use mathlib.Core.Bool.{Bool, true, false, not, _&&_, _||_}
-use mathlib.Core.List.{List, [], _∷_, _++_}
+use mathlib.Core.Bool.{Bool, true, false, _&&_}
+use mathlib.Core.List.{List, [], _∷_}
 use mathlib.Core.Option.{Option, none, some}
 use lib.Dec.{T, eqb, eqb-refl, eqb→eq, leb, ltb, leb→le, le→leb}
 use lib.ListN.{length, getD}
@@ -14,21 +14,21 @@ use Rattle.rules.specs.Words.{_∈_, at-head, in-tail, among}
 use Rattle.rules.specs.Board.{isCell}
 use Rattle.rules.specs.Text.{Bytes}
 use Rattle.rules.specs.Joining.{Joins, joined}
-use Rattle.rules.specs.Tree.{Wait, Move, Sheet, everyMove, everyWait, moveCount, waitCount}
+use Rattle.rules.specs.Tree.{Wait, Move, Sheet, everyMove, everyWait}
 use Rattle.rules.specs.Reading.{Result, refused, got, readSheet}
-use Rattle.rules.specs.Fair.{Fault, inWaits, holding, inEvery, notApart, notElusive, firstFault, firstNotApart, firstNotElusive}
+use Rattle.rules.specs.Fair.{Fault, inWaits, holding, notApart, notElusive, firstNotApart, firstNotElusive}
 use Rattle.rules.specs.Outcomes.{outcomes, outcomeCount}
 use Rattle.rules.specs.Entries.{_>>=_, refuseIf, refuseFault, refuseUnjoined, read, fair, satisfying, accepted, judged, judge}
-use Rattle.rules.specs.Plain.{IsApart, IsElusive, AllApart, AllElusive, AllJoin, WithinSizes, IsSheet, IsFirst, IsFirstUnjoined, Given, as-accepted, as-small, as-long, as-unread, as-not-apart, as-not-elusive, as-too-many, as-not-joined}
+use Rattle.rules.specs.Plain.{IsApart, IsElusive, AllApart, AllElusive, AllJoin, WithinSizes, IsSheet, Given, as-accepted, as-small, as-long, as-unread, as-not-apart, as-not-elusive, as-too-many, as-not-joined}
 use Rattle.rules.specs.declared.Board.{Board}
 use Rattle.rules.specs.declared.Player.{Player}
 use Rattle.rules.specs.declared.Verdict.{Verdict}
-use Rattle.rules.specs.declared.Verdict.the-variants.{Accepted, SmallWorkspace, LongText, NotApart, NotElusive, TooManyOutcomes, NotJoined}
+use Rattle.rules.specs.declared.Verdict.the-variants.{SmallWorkspace, LongText, NotApart, NotElusive, TooManyOutcomes, NotJoined}
 use Rattle.rules.proofs.Tests.{true-of, false-of, both, fst, snd, left, right, cases}
 use Rattle.rules.proofs.Lists.{all-cons, nothing-in}
 use Rattle.rules.proofs.Joining.{joined→joins, joins→joined}
 use Rattle.rules.proofs.Outcomes.{count-is-length}
-use Rattle.rules.proofs.Smallest.{Clean, none-clean, clean-none, first-is, is-first}
+use Rattle.rules.proofs.Smallest.{none-clean, clean-none, first-is, is-first}
 use Rattle.rules.proofs.Steps.{not-refused, got-inj, then-got, refuseIf-got, refuseFault-got}
 
 -- apart and elusive, at a node

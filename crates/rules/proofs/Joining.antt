@@ -1,19 +1,19 @@
 -- The test `joined` and the chain of neighbours `Joins` say the same.
 use mathlib.Core.Path.{_≡_, refl, ap, subst, subst⁻¹}
 use mathlib.Core.Logic.{_⊎_, inl, inr, _↔_}
-use Prim.Native.Nat.{ℕ, zero, suc, _+_, _-_, _*_, _≤_, _<_}
+use Prim.Native.Nat.{ℕ, zero, suc, _+_, _-_, _*_, _≤_}
 use native.Mathlib.Nat.{mul-le-mul-right}
 use mathlib.Core.Bool.{Bool, true, false, not, _&&_}
 use mathlib.Core.List.{List, [], _∷_, _++_}
-use lib.Dec.{T, eqb, eqb-refl, eqb→eq, leb, leb→le, le→leb, T-not}
+use lib.Dec.{T, eqb, eqb-refl, eqb→eq, leb, leb→le, le→leb}
 use lib.ListN.{length}
 use native.Mathlib.Omega.{arith}
-use Rattle.rules.specs.Words.{if_then_else_, among, keep, any, upTo}
-use Rattle.rules.specs.Board.{onBoard, cellAt, cells, isCell, there, around, neighbours, columnOf, rowOf, onFirstSide, onLastSide, listed}
+use Rattle.rules.specs.Words.{if_then_else_, among, keep, upTo}
+use Rattle.rules.specs.Board.{onBoard, cellAt, cells, isCell, there, around, neighbours, onFirstSide, onLastSide, listed}
 use Rattle.rules.specs.Joining.{Chain, here, step, Joins, touches, grow, reachedIn, joined}
 use Rattle.rules.specs.declared.Board.{Board}
 use Rattle.rules.specs.declared.Player.{Player}
-use Rattle.rules.proofs.Tests.{decide, both, fst, snd, left, right, cases, same-test}
+use Rattle.rules.proofs.Tests.{decide, both, fst, snd, left, cases, same-test}
 use Rattle.rules.proofs.Lists.{keep-in, in-keep, any-some, some-any, in-append, append-left, append-right, keep-split, up-to-in, in-up-to}
 
 -- the listed cells of a set are those of its cells that are on the board

@@ -1,26 +1,24 @@
 -- What reading gives: `WellRead` of every text that reads.
-use mathlib.Core.Path.{_≡_, refl, sym, ap, ap₂, subst, subst⁻¹, _∙_}
+use mathlib.Core.Path.{_≡_, refl, ap, subst, subst⁻¹, _∙_}
 use mathlib.Core.Logic.{_≢_, _⊎_, inl, inr}
-use Prim.Native.Nat.{ℕ, zero, suc, _+_, _-_, _≤_, _<_, max}
-use mathlib.Core.Bool.{Bool, true, false, not, _&&_, _||_}
-use mathlib.Core.List.{List, [], _∷_, _++_}
+use Prim.Native.Nat.{ℕ, zero, suc, _+_, _-_, _≤_}
+use mathlib.Core.Bool.{Bool, true, false, _&&_}
+use mathlib.Core.List.{List, [], _∷_}
 use mathlib.Core.Option.{Option, none, some, IsSome}
-use lib.Dec.{T, eqb, leb, leb→le, eqb-refl}
-use lib.ListN.{length, length-append}
+use lib.Dec.{T, eqb, leb, leb→le}
+use lib.ListN.{length}
 use borrow.Author.Tests.{eqb-false, leb-false}
 use native.Mathlib.Omega.{arith}
-use Rattle.rules.specs.Sizes.{largest, highestRow, mostUnder, mostNodes, mostDepth}
-use Rattle.rules.specs.Words.{if_then_else_, _∈_, at-head, in-tail}
-use Rattle.rules.specs.Board.{isCell, onBoard, cellAt}
-use Rattle.rules.specs.Text.{Bytes, Reader, bind, give as giveText, guard, word, tab, lineFeed, number, numberIn, _orElse_}
-use Rattle.rules.specs.Lines.{Place, Line, Header, player, place, moveLine, dashLine, waitLine, headerLine}
-use Rattle.rules.specs.Tree.{Waits, noWaits, wait, Moves, noMoves, move, Wait, Move, asWaits, asMoves, Sheet, movesOfWaits, movesOfMoves, waitsOfWaits, waitsOfMoves, everyMove, everyWait, moveCount, waitCount}
-use Rattle.rules.specs.Reading.{Result, refused, got, Spot, Reading, go, give, within, cellOf, Node, placed, atDepth, wellFormed, counted, nodeLine, inTurn, readMove, readWait, ended, readBody, headed, readSheet}
-use Rattle.rules.specs.Plain.{linesOfWaits, linesOfMoves, linesOf, upFrom, depthOfWaits, depthOfMoves, WellRead}
+use Rattle.rules.specs.Sizes.{largest, mostUnder, mostNodes}
+use Rattle.rules.specs.Board.{isCell}
+use Rattle.rules.specs.Text.{Bytes, Reader, give as giveText, guard, word, tab, lineFeed, number, numberIn}
+use Rattle.rules.specs.Lines.{Place, Line, Header, player, place, moveLine, waitLine, headerLine}
+use Rattle.rules.specs.Tree.{Waits, noWaits, wait, Moves, noMoves, move, Wait, Move, asWaits, asMoves}
+use Rattle.rules.specs.Reading.{got, Spot, Reading, go, give, within, cellOf, Node, placed, atDepth, wellFormed, counted, nodeLine, inTurn, readMove, readWait}
 use Rattle.rules.specs.declared.Board.{Board}
 use Rattle.rules.proofs.Tests.{fst, snd}
 use Rattle.rules.proofs.Joining.{cell-on}
-use Rattle.rules.proofs.Steps.{none≢some, some-inj, not-refused, got-inj, bind-some, guard-some, go-got}
+use Rattle.rules.proofs.Steps.{some-inj, not-refused, got-inj, bind-some, guard-some, go-got}
 
 -- lines
 number-range : (lo hi : ℕ) (s : Bytes) (y : ℕ × Bytes) → numberIn lo hi s ≡ some y → (lo ≤ y .0) × (y .0 ≤ hi)

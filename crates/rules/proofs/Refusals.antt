@@ -1,9 +1,9 @@
 -- A refusal of the reading is one of 3 to 9, so judge replies that it accepts of sheets only.
 use mathlib.Core.Path.{_≡_, refl, ap, subst}
 use mathlib.Core.Logic.{_↔_}
-use Prim.Native.Nat.{ℕ, zero, suc, _≤_}
+use Prim.Native.Nat.{ℕ, zero, suc}
 use mathlib.Core.Bool.{Bool, true, false}
-use mathlib.Core.List.{List, [], _∷_}
+use mathlib.Core.List.{[], _∷_}
 use mathlib.Core.Option.{Option, none, some}
 use lib.Dec.{eqb}
 use native.Mathlib.Omega.{arith}
@@ -11,11 +11,10 @@ use Rattle.rules.specs.Sizes.{mostNodes, mostDepth}
 use Rattle.rules.specs.Words.{if_then_else_}
 use Rattle.rules.specs.Text.{Bytes, Reader, _orElse_}
 use Rattle.rules.specs.Lines.{Line, Header, headerLine, moveLine, dashLine, waitLine}
-use Rattle.rules.specs.Tree.{Move, Wait, Sheet, moveCount, waitCount}
-use Rattle.rules.specs.Reading.{Result, refused, got, Spot, Reading, go, give, within, Node, placed, atDepth, wellFormed, counted, nodeLine, inTurn, readMove, readWait, ended, readBody, headed, readSheet}
-use Rattle.rules.specs.Outcomes.{outcomeCount}
+use Rattle.rules.specs.Tree.{Move}
+use Rattle.rules.specs.Reading.{Result, refused, got, Spot, Reading, go, give, within, placed, atDepth, wellFormed, counted, nodeLine, inTurn, readMove, readWait, ended, readBody, headed, readSheet}
 use Rattle.rules.specs.Entries.{judge}
-use Rattle.rules.specs.Plain.{IsSheet, Given, as-accepted, as-small, as-long, as-unread, as-not-apart, as-not-elusive, as-too-many, as-not-joined, OfReading, AcceptedAs}
+use Rattle.rules.specs.Plain.{Given, as-accepted, as-small, as-long, as-unread, as-not-apart, as-not-elusive, as-too-many, as-not-joined, OfReading, AcceptedAs}
 use Rattle.rules.specs.Verdict.{told}
 use Rattle.rules.specs.declared.Board.{Board}
 use Rattle.rules.specs.declared.Verdict.{Verdict}

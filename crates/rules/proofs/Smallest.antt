@@ -1,11 +1,11 @@
 -- The smallest cell of a set, and the first faulty node of a list: the computed ones are those that the plain statements name.
 use mathlib.Core.Path.{_≡_, refl, sym, ap, subst, subst⁻¹, _∙_}
-use mathlib.Core.Logic.{_⊎_, inl, inr, _↔_}
-use Prim.Native.Nat.{ℕ, zero, suc, _+_, _≤_, _<_}
+use mathlib.Core.Logic.{inl, inr}
+use Prim.Native.Nat.{ℕ, zero, suc, _+_, _≤_}
 use native.Mathlib.Nat.{le-antisymm}
-use mathlib.Core.Bool.{Bool, true, false, not, _&&_, _||_}
+use mathlib.Core.Bool.{Bool, true, false}
 use mathlib.Core.List.{List, [], _∷_, _++_}
-use mathlib.Core.Option.{Option, none, some}
+use mathlib.Core.Option.{none, some}
 use lib.Dec.{T, eqb, eqb-refl, eqb→eq, leb, leb→le}
 use native.Mathlib.Omega.{arith}
 use Rattle.rules.specs.Words.{if_then_else_, _∈_, at-head, in-tail, among, keep, upTo, firstOrNone}
@@ -13,7 +13,7 @@ use Rattle.rules.specs.Board.{cells, isCell, listed, smallest}
 use Rattle.rules.specs.Fair.{Fault, faultAt, firstFault}
 use Rattle.rules.specs.Plain.{IsFirst}
 use Rattle.rules.specs.declared.Board.{Board}
-use Rattle.rules.proofs.Tests.{fst, snd, left, right, cases}
+use Rattle.rules.proofs.Tests.{fst, left, cases}
 use Rattle.rules.proofs.Lists.{in-append, keep-in, up-to-in, all-cons, nothing-in}
 use Rattle.rules.proofs.Joining.{listed-in, in-listed}
 use Rattle.rules.proofs.Steps.{none≢some, some-inj}

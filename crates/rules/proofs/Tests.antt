@@ -3,10 +3,8 @@
 use mathlib.Core.Path.{_≡_, refl, subst⁻¹}
 use mathlib.Core.Bool.{Bool, true, false, not, cond, _&&_, _||_}
 use mathlib.Core.Logic.{_⊎_, inl, inr}
-use Prim.Native.Nat.{ℕ}
 use lib.Dec.{T}
 use Rattle.rules.specs.Words.{oneIf}
-use Rattle.rules.specs.Computed.{samples}
 
 pub holds-of : {b : Bool} → b ≡ true → T b
 holds-of e = subst⁻¹ T e tt

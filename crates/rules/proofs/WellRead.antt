@@ -1,14 +1,13 @@
 -- Every text that reads gives a sheet that is `WellRead`.
-use mathlib.Core.Path.{_≡_, refl, sym, ap, ap₂, subst, subst⁻¹, _∙_}
+use mathlib.Core.Path.{_≡_, refl, sym, ap, ap₂, subst⁻¹, _∙_}
 use mathlib.Core.Logic.{_≢_, _⊎_, inl, inr}
-use Prim.Native.Nat.{ℕ, zero, suc, _+_, _-_, _≤_, _<_, max}
-use mathlib.Core.Bool.{Bool}
+use Prim.Native.Nat.{ℕ, zero, suc, _+_, _-_, _≤_}
 use mathlib.Core.List.{List, [], _∷_, _++_}
 use mathlib.Core.Option.{Option, none, some}
 use lib.Dec.{T}
 use lib.ListN.{length, length-append}
 use native.Mathlib.Omega.{arith}
-use Rattle.rules.specs.Sizes.{mostNodes, mostDepth}
+use Rattle.rules.specs.Sizes.{mostDepth}
 use Rattle.rules.specs.Words.{_∈_, at-head, in-tail}
 use Rattle.rules.specs.Board.{isCell}
 use Rattle.rules.specs.Text.{Bytes, _orElse_}
@@ -19,7 +18,7 @@ use Rattle.rules.specs.Plain.{linesOfWaits, linesOfMoves, linesOf, upFro
 use Rattle.rules.specs.declared.Board.{Board}
 use Rattle.rules.proofs.Lists.{in-both}
 use Rattle.rules.proofs.Steps.{not-refused, got-inj}
-use Rattle.rules.proofs.Reading.{BoardSize, header-size, nodesInWaits, nodesInMoves, ReadWaits, ReadMoves, MoveRead, move-read, cell-read}
+use Rattle.rules.proofs.Reading.{BoardSize, header-size, nodesInWaits, nodesInMoves, ReadWaits, ReadMoves, move-read, cell-read}
 
 -- waits have a move
 mutual

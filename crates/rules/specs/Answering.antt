@@ -1,6 +1,6 @@
 -- "The answering rule": the stones and the open waits, what the holder may answer, and what the rule answers.
-use Prim.Native.Nat.{ℕ, zero, suc, _+_, min}
-use mathlib.Core.Bool.{Bool, true, false, not, cond, _&&_, _||_}
+use Prim.Native.Nat.{ℕ, _+_, min}
+use mathlib.Core.Bool.{Bool, true, not, cond, _&&_, _||_}
 use mathlib.Core.List.{List, [], _∷_, _++_}
 use mathlib.Core.Logic.{_⊎_, inl, inr}
 use mathlib.Core.Option.{Option, none, some, Option·map}

@@ -1,7 +1,7 @@
 -- "The board": when a set of cells joins a player's two sides.
 use Prim.Native.Nat.{ℕ, zero, suc}
-use mathlib.Core.Bool.{Bool, true, false, not}
-use mathlib.Core.List.{List, [], _∷_, _++_}
+use mathlib.Core.Bool.{Bool, not}
+use mathlib.Core.List.{List, _++_}
 use lib.Dec.{T}
 use lib.ListN.{length}
 use Rattle.rules.specs.Words.{among, keep, any}

@@ -1,11 +1,10 @@
 -- "The sheet": line 1, and the lines of moves and waits.
-use Prim.Native.Nat.{ℕ, zero, suc, _+_, _-_}
-use mathlib.Core.Bool.{Bool, true, false, _&&_}
-use mathlib.Core.List.{List, [], _∷_}
+use Prim.Native.Nat.{ℕ, _-_}
+use mathlib.Core.Bool.{_&&_}
 use mathlib.Core.Option.{Option, none, some}
 use lib.Dec.{leb}
 use Rattle.rules.specs.Sizes.{largest, highestRow, mostUnder}
-use Rattle.rules.specs.Text.{Bytes, Reader, _>>=_, _>>_, _orElse_, give, guard, anyByte, word, tab, lineFeed, numberIn}
+use Rattle.rules.specs.Text.{Reader, _>>=_, _>>_, _orElse_, give, guard, anyByte, word, tab, lineFeed, numberIn}
 use Rattle.rules.specs.declared.Board.{Board}
 use Rattle.rules.specs.declared.Player.{Player}
 use Rattle.rules.specs.declared.Player.the-variants.{D, A}

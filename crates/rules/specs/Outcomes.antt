@@ -1,5 +1,5 @@
 -- "Fair sheets": outcomes, their numbering and their count.
-use Prim.Native.Nat.{ℕ, zero, suc, _+_, _*_}
+use Prim.Native.Nat.{ℕ, _+_, _*_}
 use mathlib.Core.List.{List, [], _∷_, _++_, map}
 use Rattle.rules.specs.Tree.{Waits, noWaits, wait, Moves, noMoves, move, Sheet, stone}
 

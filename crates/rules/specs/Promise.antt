@@ -1,10 +1,10 @@
 -- Demand 3, the cover's sentence: what an accepted sheet promises its holder.
 use mathlib.Core.Path.{_≡_}
 use mathlib.Core.Logic.{_≢_}
-use Prim.Native.Nat.{ℕ, zero, suc, _≤_, _<_}
-use mathlib.Core.Bool.{Bool, not}
+use Prim.Native.Nat.{ℕ, suc, _≤_, _<_}
+use mathlib.Core.Bool.{not}
 use mathlib.Core.List.{List, [], _∷_}
-use mathlib.Core.Option.{Option, some}
+use mathlib.Core.Option.{some}
 use lib.Dec.{T}
 use lib.ListN.{length}
 use Rattle.rules.specs.Text.{Bytes}
@@ -12,7 +12,7 @@ use Rattle.rules.specs.Tree.{Sheet, waitCount}
 use Rattle.rules.specs.Reading.{got}
 use Rattle.rules.specs.Fair.{holding}
 use Rattle.rules.specs.Answering.{Game, Choice, taken, allowed, answer, start, isOver, isEmpty, next, answered}
-use Rattle.rules.specs.Entries.{PlayReply, accepted, play}
+use Rattle.rules.specs.Entries.{accepted, play}
 use Rattle.rules.specs.declared.Verdict.the-variants.{Done}
 
 -- Games of n rounds from g to h in which the holder takes any allowed move: each opponent move is made before the sides are

@@ -1,6 +1,6 @@
 -- "The sheet" and "Three entries", 3 to 9: the header, then the nodes in preorder. The first line with a fault decides.
 use Prim.Native.Nat.{ℕ, zero, suc, _+_}
-use mathlib.Core.Bool.{Bool, true, false}
+use mathlib.Core.Bool.{Bool, true}
 use mathlib.Core.List.{List, [], _∷_}
 use mathlib.Core.Option.{Option, none, some}
 use lib.Dec.{eqb}
@@ -9,7 +9,7 @@ use Rattle.rules.specs.Words.{if_then_else_}
 use Rattle.rules.specs.Board.{onBoard, cellAt}
 use Rattle.rules.specs.Text.{Bytes, Reader, _orElse_}
 use Rattle.rules.specs.Lines.{Line, Place, Header, headerLine, moveLine, dashLine, waitLine}
-use Rattle.rules.specs.Tree.{Wait, Move, Waits, noWaits, Moves, noMoves, asWaits, asMoves, Sheet}
+use Rattle.rules.specs.Tree.{Wait, Move, noWaits, noMoves, asWaits, asMoves, Sheet}
 use Rattle.rules.specs.declared.Board.{Board}
 use Rattle.rules.specs.declared.Verdict.{Verdict}
 use Rattle.rules.specs.declared.Verdict.the-variants.{BadHeader, BadLine, OffBoard, TooManyNodes, TooDeep, Unfinished, TextAfter}

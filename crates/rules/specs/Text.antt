@@ -1,7 +1,7 @@
 -- "The sheet": reading from the front of a text. A reader takes the bytes that are left, and gives what it read with the
 -- bytes after it, or nothing where the text does not begin so.
-use Prim.Native.Nat.{ℕ, zero, suc, _+_, _*_, _-_}
-use mathlib.Core.Bool.{Bool, true, false, not, _&&_, _||_}
+use Prim.Native.Nat.{ℕ, _+_, _*_, _-_}
+use mathlib.Core.Bool.{Bool, true, false, not, _&&_}
 use mathlib.Core.List.{List, [], _∷_}
 use mathlib.Core.Option.{Option, none, some}
 use Prim.Native.Char.{code}

@@ -1,17 +1,16 @@
 -- The checks of a held sheet one after another, and what judge replies.
-use mathlib.Core.Path.{_≡_, refl, sym, ap, ap₂, _∙_, subst, subst⁻¹}
-use mathlib.Core.Logic.{⊎-elim}
-use mathlib.Core.List.{List, [], _∷_, _++_}
-use Prim.Native.Nat.{ℕ, suc, _+_, _-_, _≤_, _<_}
+use mathlib.Core.Path.{_≡_, refl, sym, ap, _∙_, subst}
+use mathlib.Core.List.{List, _++_}
+use Prim.Native.Nat.{ℕ, _+_, _-_, _≤_, _<_}
 use native.Mathlib.Omega.{arith}
 use lib.ListN.{length, drop, replicate}
 use borrow.Author.Tests.{lt-ltb, le-ltb}
-use Rattle.rules.specs.Sizes.{mostOutcomes, mostNodes, leastWorkspace}
+use Rattle.rules.specs.Sizes.{mostNodes, leastWorkspace}
 use Rattle.rules.specs.Text.{Bytes}
 use Rattle.rules.specs.Tree.{Sheet, everyWait, moveCount, waitCount}
 use Rattle.rules.specs.Reading.{Result, refused, got}
-use Rattle.rules.specs.Outcomes.{outcomes, outcomeCount, countOfWaits}
-use Rattle.rules.specs.Entries.{_>>=_, refuseIf, refuseUnjoined, read, fair, satisfying, accepted, judged, judge, workspaceAfter, JudgeKept}
+use Rattle.rules.specs.Outcomes.{outcomes, outcomeCount}
+use Rattle.rules.specs.Entries.{_>>=_, refuseIf, refuseUnjoined, read, fair, accepted, judged, judge, workspaceAfter, JudgeKept}
 use Rattle.rules.specs.declared.Board.{Board}
 use Rattle.rules.specs.declared.Player.{Player}
 use Rattle.rules.specs.declared.Verdict.{Verdict}
@@ -20,11 +19,11 @@ use Rattle.rules.proofs.Given.{fault-joined}
 use Rattle.rules.proofs.WellRead.{nodes-of-waits}
 use Rattle.nodes.specs.Table.{WeighedOn, At, endIn}
 use Rattle.nodes.specs.Nodes.{aMove, nodesOfWaits}
-use Rattle.nodes.specs.Sheets.{HoldsSheet, SomeSheet}
+use Rattle.nodes.specs.Sheets.{HoldsSheet}
 use Rattle.nodes.proofs.Table.{weighed-on-at}
 use Rattle.nodes.proofs.Trees.{waits-size}
 use Rattle.nodes.proofs.Sheets.{sheet-cells, sheet-on-board, sheet-end}
-use Rattle.outcomes.specs.Searching.{Countable, SomeCountable, UnjoinedFound, refusal}
+use Rattle.outcomes.specs.Searching.{Countable, UnjoinedFound, refusal}
 use Rattle.outcomes.proofs.Seating.{waits-seated}
 use Rattle.outcomes.specs.declared.Unjoined.{Unjoined}
 use Rattle.outcomes.specs.declared.Unjoined.the-variants.{First, Nothing}

@@ -1,19 +1,19 @@
 -- A loop over the nodes of a held sheet that counts its moves.
-use mathlib.Core.Path.{_≡_, refl, sym, ap, _∙_}
-use mathlib.Core.Bool.{Bool, true, false}
+use mathlib.Core.Path.{_≡_, refl, ap}
+use mathlib.Core.Bool.{true, false}
 use mathlib.Core.List.{List, [], _∷_}
 use Prim.Native.Nat.{ℕ, suc, _+_, _≤_, _<_}
 use native.Mathlib.Omega.{arith}
-use lib.ListN.{length, getD}
+use lib.ListN.{length}
 use Rattle.rules.specs.declared.Board.{Board}
-use Rattle.rules.specs.Tree.{Move, Sheet, everyMove, moveCount}
+use Rattle.rules.specs.Tree.{Sheet, everyMove, moveCount}
 use Rattle.nodes.specs.Table.{endIn}
-use Rattle.nodes.specs.Order.{TreeNode, isMove, isWait, inOrderWaits, movesAmong}
+use Rattle.nodes.specs.Order.{TreeNode, movesAmong}
 use Rattle.nodes.specs.Sheets.{HoldsSheet, SomeSheet}
 use Rattle.nodes.proofs.Order.{moves-of-waits, waits-length}
 use Rattle.nodes.proofs.Sheets.{sheet-end}
 use Rattle.fair.specs.Faults.{isMoveAt, NodeAt, SomeTreeNode}
-use Rattle.fair.proofs.Laid.{Laid, laidEnd, laidNode, treeOf, sheet-laid}
+use Rattle.fair.proofs.Laid.{Laid, laidNode, treeOf, sheet-laid}
 use Rattle.fair.proofs.WhichKind.{of-move, of-wait}
 
 -- so many moves were met before node i; the others stand from there on

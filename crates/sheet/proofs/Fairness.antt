@@ -1,14 +1,14 @@
 -- 10, 11 and 12 of a held sheet, from what the searches and the table tell.
-use mathlib.Core.Path.{_≡_, refl, sym, ap, _∙_, subst}
+use mathlib.Core.Path.{_≡_, sym, ap, _∙_}
 use mathlib.Core.List.{List}
-use mathlib.Core.Option.{Option, none, some}
-use Prim.Native.Nat.{ℕ, suc, _≤_, _<_, min}
+use mathlib.Core.Option.{Option, none}
+use Prim.Native.Nat.{ℕ, _≤_, _<_}
 use native.Mathlib.Omega.{arith}
 use Rattle.rules.specs.Sizes.{mostOutcomes}
 use Rattle.rules.specs.Tree.{Sheet}
-use Rattle.rules.specs.Reading.{Result, refused, got}
+use Rattle.rules.specs.Reading.{refused}
 use Rattle.rules.specs.Fair.{Fault, firstNotApart, firstNotElusive}
-use Rattle.rules.specs.Outcomes.{outcomeCount, countOfWaits}
+use Rattle.rules.specs.Outcomes.{outcomeCount}
 use Rattle.rules.specs.Entries.{fair}
 use Rattle.rules.specs.declared.Board.{Board}
 use Rattle.rules.specs.declared.Verdict.the-variants.{NotApart, NotElusive, TooManyOutcomes}

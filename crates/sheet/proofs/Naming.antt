@@ -1,16 +1,15 @@
 -- Outcome's checks one after another, the cells that it lists, and what it replies.
-use mathlib.Core.Path.{_≡_, refl, sym, ap, _∙_, subst, subst⁻¹}
-use mathlib.Core.Bool.{Bool, true, false, not, _||_}
-use mathlib.Core.List.{List, [], _∷_, _++_}
+use mathlib.Core.Path.{_≡_, sym, ap, _∙_, subst, subst⁻¹}
+use mathlib.Core.Bool.{Bool, false, _||_}
+use mathlib.Core.List.{List, [], _++_}
 use Prim.Native.Nat.{ℕ, _≤_, _<_}
 use native.Mathlib.Omega.{arith}
-use lib.Dec.{T, ltb}
 use lib.ListN.{length, getD, drop, replicate}
 use borrow.Author.Tests.{lt-ltb, le-ltb}
-use Rattle.rules.specs.Sizes.{mostOutcomes, leastWorkspace}
+use Rattle.rules.specs.Sizes.{leastWorkspace}
 use Rattle.rules.specs.Words.{among}
 use Rattle.rules.specs.Text.{Bytes}
-use Rattle.rules.specs.Board.{isCell, listed}
+use Rattle.rules.specs.Board.{listed}
 use Rattle.rules.specs.Tree.{Sheet, stone}
 use Rattle.rules.specs.Reading.{Result, refused, got}
 use Rattle.rules.specs.Outcomes.{outcomes, outcomeCount, outcomesOfWaits}

@@ -7,17 +7,16 @@ use Rattle.rules.specs.Sizes.{leastWorkspace}
 use Rattle.rules.specs.Text.{Bytes}
 use Rattle.rules.specs.Tree.{Sheet}
 use Rattle.rules.specs.Reading.{got}
-use Rattle.rules.specs.Answering.{Game, start, isOver}
-use Rattle.rules.specs.Entries.{PlayReply, accepted, play, playShown, roomAfter, PlayKept}
+use Rattle.rules.specs.Answering.{isOver}
+use Rattle.rules.specs.Entries.{PlayReply, accepted, playShown, roomAfter}
 use Rattle.rules.specs.Plain.{IsSheet}
-use Rattle.rules.specs.Promise.{Ruled}
 use Rattle.rules.specs.declared.Played.{Played}
 use Rattle.rules.specs.declared.Verdict.the-variants.{Done}
 use Rattle.rules.proofs.Tests.{true-of}
 use Rattle.rules.proofs.Given.{accepted-exactly}
 use Rattle.rules.proofs.Refusals.{accepted-reply}
 use Rattle.rules.proofs.Cover.{demand-3, demand-3-joined, demand-3-played}
-use Rattle.sheet.specs.Promise.{Keeps, PlayKeeps, PlayEnds, CoversPlay}
+use Rattle.sheet.specs.Promise.{PlayKeeps, PlayEnds, CoversPlay}
 
 -- another workspace that suffices changes nothing
 in-another : (w v : ℕ) (t : Bytes) (s : Sheet) → leastWorkspace ≤ v → IsSheet w t s → IsSheet v t s

@@ -1,7 +1,7 @@
 -- A sheet's text: 2 and 3, its body, and the table that holds what was read and weighed.
-use mathlib.Core.Path.{_≡_, refl, sym, ap, _∙_, subst, subst⁻¹}
+use mathlib.Core.Path.{_≡_, refl, sym, ap, _∙_, subst}
 use mathlib.Core.List.{List}
-use mathlib.Core.Option.{Option, none, some}
+use mathlib.Core.Option.{none, some}
 use Prim.Native.Nat.{ℕ, _-_, _≤_, _<_}
 use native.Mathlib.Omega.{arith}
 use lib.ListN.{length, take, drop, length-take, length-drop}
@@ -10,8 +10,7 @@ use borrow.Author.Tests.{lt-ltb, le-ltb}
 use Rattle.rules.specs.Sizes.{mostBytes, leastWorkspace}
 use Rattle.rules.specs.Text.{Bytes}
 use Rattle.rules.specs.Lines.{Header, headerLine}
-use Rattle.rules.specs.Tree.{Move, Sheet}
-use Rattle.rules.specs.Reading.{Result, refused, got, readBody, headed, readSheet}
+use Rattle.rules.specs.Reading.{refused, readBody, headed, readSheet}
 use Rattle.rules.specs.Entries.{_>>=_, refuseIf}
 use Rattle.rules.specs.declared.Board.{Board}
 use Rattle.rules.specs.declared.Player.{Player}
@@ -21,9 +20,8 @@ use Rattle.rules.proofs.Reading.{BoardSize, header-size}
 use Rattle.rules.proofs.WellRead.{well-read}
 use Rattle.cells.specs.Cells.{Fits}
 use Rattle.nodes.specs.Nodes.{aMove, nodesOfWaits}
-use Rattle.nodes.specs.Table.{Row, At, SomeNode}
+use Rattle.nodes.specs.Table.{Row, SomeNode}
 use Rattle.nodes.specs.Weighing.{WeighsAny}
-use Rattle.nodes.specs.Sheets.{HoldsSheet}
 use Rattle.nodes.proofs.Weighing.{weighs-at, weighs-long}
 use Rattle.lines.specs.Seen.{Reads}
 use Rattle.reading.specs.Kept.{BodyReady, BodyStands, BodyReply, BodyKept}

@@ -12,7 +12,6 @@ use Rattle.rules.specs.Outcomes.{outcomeCount}
 use Rattle.rules.specs.Entries.{_>>=_, refuseIf, fair, satisfying}
 use Rattle.rules.specs.declared.Board.{Board}
 use Rattle.rules.specs.declared.Player.{Player}
-use Rattle.rules.specs.declared.Verdict.{Verdict}
 use Rattle.rules.specs.declared.Verdict.the-variants.{LongText}
 use Rattle.nodes.specs.Sheets.{HoldsSheet}
 use Rattle.sheet.specs.declared.SheetRead.{SheetRead}

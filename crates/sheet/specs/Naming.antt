@@ -7,7 +7,7 @@ use lib.Dec.{ltb}
 use lib.ListN.{length}
 use Rattle.rules.specs.Sizes.{mostOutcomes}
 use Rattle.rules.specs.Tree.{Sheet}
-use Rattle.rules.specs.Reading.{Result, refused, got}
+use Rattle.rules.specs.Reading.{Result, got}
 use Rattle.rules.specs.Outcomes.{outcomeCount}
 use Rattle.rules.specs.Entries.{_>>=_, refuseIf, fair, outcomeCells, OutcomeReply, outcomeShown, roomAfter}
 use Rattle.rules.specs.declared.Board.{Board}

@@ -1,7 +1,7 @@
 -- Demand 3, the cover's sentence, of what the entries judge and play return.
 use mathlib.Core.Path.{_≡_}
 use Prim.Native.Nat.{ℕ, _≤_}
-use mathlib.Core.Bool.{Bool, true, not}
+use mathlib.Core.Bool.{true, not}
 use mathlib.Core.List.{List}
 use lib.Dec.{T}
 use lib.ListN.{length}
@@ -13,7 +13,6 @@ use Rattle.rules.specs.Entries.{roomAfter, JudgeKept, PlayKept}
 use Rattle.rules.specs.Plain.{IsSheet}
 use Rattle.rules.specs.Promise.{Ruled, Covered, HasAnswer}
 use Rattle.rules.specs.declared.Played.{Played}
-use Rattle.rules.specs.declared.Verdict.{Verdict}
 use Rattle.rules.specs.declared.Verdict.the-variants.{Accepted, Done}
 
 -- Play's return after these opponent moves, which lead to the game g: one answer a move, written to the first places of the room,

@@ -9,7 +9,7 @@ use Rattle.answering.proofs.answer_at.Tie as tie
 touched-requires : tie.Need-touched-requires
 touched-requires c κs =
     let p = c .before .pre in
-    (p .0, p .1, record { waits = _; are-open = p .2 .2 .are-open })
+    (p .0, record { board = _; waits = _; are-open = p .1 .3 .are-open })
 
 enum-known-found : tie.Need-enum-known-found
 enum-known-found c = search needs
@@ -19,41 +19,41 @@ enum-told c = search needs
 
 first-open-requires : tie.Need-first-open-requires
 first-open-requires c κs =
-    let p = c .before .before .before .before .pre .2 in
-    let e = sym (c .enum-told .given .1) ∙ c .before .before .touched .ensures (p .0) (p .2 .are-open) in
-    (_, _, _, _, free-waiting (p .2) (answer-free (p .2) e))
+    let p = c .before .before .before .before .pre .1 in
+    let e = sym (c .enum-told .given .1) ∙ c .before .before .touched .ensures (p .0) (p .1) (p .3 .are-open) in
+    (_, _, _, _, free-waiting (p .3) (answer-free (p .3) e))
 
-add-t9 : tie.Need-add-t9
-add-t9 c =
-    let p = c .before .before .before .before .before .pre .2 in
-    let e = sym (c .before .enum-told .given .1) ∙ c .before .before .before .touched .ensures (p .0) (p .2 .are-open) in
-    let o = free-waiting (p .2) (answer-free (p .2) e) in
+add-t8 : tie.Need-add-t8
+add-t8 c =
+    let p = c .before .before .before .before .before .pre .1 in
+    let e = sym (c .before .enum-told .given .1) ∙ c .before .before .before .touched .ensures (p .0) (p .1) (p .3 .are-open) in
+    let o = free-waiting (p .3) (answer-free (p .3) e) in
     omega (arith, c .first-open .ensures _ _ _ _ o, open-line o)
 
 returns : tie.Need-returns
-returns c ws k a =
-    let e = sym (c .before .enum-told .given .1) ∙ c .before .before .before .touched .ensures ws (a .are-open) in
+returns c b ws k a =
+    let e = sym (c .before .enum-told .given .1) ∙ c .before .before .before .touched .ensures b ws (a .are-open) in
     let f = answer-free a e in
     let g = c .first-open .ensures _ _ _ _ (free-waiting a f) in
     record { wait-is = g ∙ sym (f .wait-is); move-is = omega (arith, g, f .move-is) }
 
 add-first : tie.Need-add-first
 add-first c =
-    let p = c .before .before .before .before .before .pre .2 in
-    let e = sym (c .before .found .given .1) ∙ c .before .before .before .touched .ensures (p .0) (p .2 .are-open) in
-    omega (arith, answer-touched (p .2) _ e .room)
+    let p = c .before .before .before .before .before .pre .1 in
+    let e = sym (c .before .found .given .1) ∙ c .before .before .before .touched .ensures (p .0) (p .1) (p .3 .are-open) in
+    omega (arith, answer-touched (p .3) _ e .room)
 
 first-without-requires : tie.Need-first-without-requires
 first-without-requires c κs =
     let p = c .before .before .before .before .before .pre in
-    let e = sym (c .before .found .given .1) ∙ c .before .before .before .touched .ensures (p .2 .0) (p .2 .2 .are-open) in
-    (p .0, p .1, (_, _, answer-touched (p .2 .2) _ e .dodge))
+    let e = sym (c .before .found .given .1) ∙ c .before .before .before .touched .ensures (p .1 .0) (p .1 .1) (p .1 .3 .are-open) in
+    (omega (arith, p .0), (_, _, _, answer-touched (p .1 .3) _ e .dodge))
 
 returns-2 : tie.Need-returns-2
-returns-2 c ws k a =
-    let e = sym (c .before .before .found .given .1) ∙ c .before .before .before .before .touched .ensures ws (a .are-open) in
+returns-2 c b ws k a =
+    let e = sym (c .before .before .found .given .1) ∙ c .before .before .before .before .touched .ensures b ws (a .are-open) in
     let d = answer-touched a _ e in
-    record { wait-is = sym (d .wait-is); move-is = c .first-without .ensures _ _ (d .dodge) ∙ sym (d .move-is) }
+    record { wait-is = sym (d .wait-is); move-is = c .first-without .ensures _ _ _ (d .dodge) ∙ sym (d .move-is) }
 
 pub answer-at-spec : {M : Type 1} → statement M
 answer-at-spec =
@@ -63,7 +63,7 @@ answer-at-spec =
     enum-known-found
     enum-told
     first-open-requires
-    add-t9
+    add-t8
     returns
     add-first
     first-without-requires

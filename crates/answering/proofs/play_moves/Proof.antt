@@ -149,7 +149,7 @@ answer-to-requires c κs =
     let h = sheet-of (opened l) in
     let g = l .loop .inv .plays _ h in
     let f = fine-move (c .before) in
-    (board-fits h, cell-small _ _ (board-fits h) (playing-cell h g _ f) .0, playing-asked h g _ f)
+    (cell-small _ _ (board-fits h) (playing-cell h g _ f) .0, playing-asked h g _ f)
 
 -- the answer is a cell of the board
 answer-cell : (c : tie.After-answer-to Inv-loop μ-loop) → T (isCell (entry (opened (turn (tested (told c)) .before)) .args .board) (c .answer-to .result))

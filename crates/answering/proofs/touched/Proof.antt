@@ -7,52 +7,52 @@ use Rattle.answering.proofs.touched.Statement.{statement}
 use Rattle.answering.proofs.touched.Tie as tie
 
 abbrev Inv-loop : tie.InvT-loop
-Inv-loop t board cell end i₀ i = Looking board t cell end i
+Inv-loop t cell end i₀ i = Looking t cell end i
 
 abbrev μ-loop : tie.MeasureT-loop
-μ-loop t board cell end i₀ i = end - i
+μ-loop t cell end i₀ i = end - i
 
 end-at-requires : tie.Need-end-at-requires Inv-loop μ-loop
-end-at-requires c κs = c .before .pre .2 .are-open .room
+end-at-requires c κs = c .before .pre .1 .are-open .room
 
 loop-holds : tie.Need-loop-holds Inv-loop μ-loop
 loop-holds c = looking-starts (c .end-at .ensures)
 
 count-at-requires : tie.Need-count-at-requires Inv-loop μ-loop
-count-at-requires c κs = looking-room (c .before .loop .inv) (omega arith) (c .before .before .before .before .pre .2)
+count-at-requires c κs = looking-room (c .before .loop .inv) (omega arith) (c .before .before .before .before .pre .1)
 
-wait-has-requires : tie.Need-wait-has-requires Inv-loop μ-loop
-wait-has-requires c κs =
+names-requires : tie.Need-names-requires Inv-loop μ-loop
+names-requires c κs =
     let l = c .before .before .before in
-    let s = l .before .before .before .pre in
-    (s .0, s .1, looking-wait (l .loop .inv) (omega arith) (sym (c .before .count-at .ensures) ∙ c .if1 .taken) (s .2))
+    looking-wait (l .loop .inv) (omega arith) (sym (c .before .count-at .ensures) ∙ c .if1 .taken) (l .before .before .before .pre .1)
 
 returns : tie.Need-returns Inv-loop μ-loop
 returns c =
     let l = c .before .before .before .before .before in
     looking-found (l .loop .inv) (omega arith) (sym (c .before .before .before .count-at .ensures) ∙ c .before .before .if1 .taken)
-    (λ ms n. sym (c .if2 .taken) ∙ c .before .wait-has .ensures ms n)
+    (l .before .before .before .pre .0)
+    (sym (c .if2 .taken) ∙ c .before .names .ensures)
 
 end-at-requires-2 : tie.Need-end-at-requires-2 Inv-loop μ-loop
 end-at-requires-2 c κs =
     let l = c .before .before .before .before .before in
-    looking-room (l .loop .inv) (omega arith) (l .before .before .before .pre .2)
+    looking-room (l .loop .inv) (omega arith) (l .before .before .before .pre .1)
 
 loop-less : tie.Need-loop-less Inv-loop μ-loop
 loop-less c =
     let l = c .before .before .before .before .before .before in
     let m = sym (c .before .before .before .before .count-at .ensures) ∙ c .before .before .before .if1 .taken in
-    omega (arith, looking-on (l .loop .inv) (omega arith) m (l .before .before .before .pre .2), c .end-at2 .ensures)
+    omega (arith, looking-on (l .loop .inv) (omega arith) m (l .before .before .before .pre .1), c .end-at2 .ensures)
 
 loop-again : tie.Need-loop-again Inv-loop μ-loop
 loop-again c =
     let l = c .before .before .before .before .before .before in
     let m = sym (c .before .before .before .before .count-at .ensures) ∙ c .before .before .before .if1 .taken in
-    let d = looking-again (l .loop .inv) (omega arith) m (λ ms n. sym (c .before .if2 .left) ∙ c .before .before .wait-has .ensures ms n) in
+    let d = looking-again (l .loop .inv) (omega arith) m (l .before .before .before .pre .0) (sym (c .before .if2 .left) ∙ c .before .before .names .ensures) in
     rw (c .end-at2 .ensures) d
 
 add-i : tie.Need-add-i Inv-loop μ-loop
-add-i c = omega (arith, looking-room (c .before .before .before .loop .inv) (omega arith) (c .before .before .before .before .before .before .pre .2))
+add-i c = omega (arith, looking-room (c .before .before .before .loop .inv) (omega arith) (c .before .before .before .before .before .before .pre .1))
 
 loop-less-2 : tie.Need-loop-less-2 Inv-loop μ-loop
 loop-less-2 c = omega arith
@@ -72,7 +72,7 @@ touched-spec =
     end-at-requires
     loop-holds
     count-at-requires
-    wait-has-requires
+    names-requires
     returns
     end-at-requires-2
     loop-less

@@ -1,6 +1,5 @@
 -- `judge::print` meets its contract: the first n bytes are n.
 use mathlib.Core.Path.{sym}
-use native.Mathlib.Omega.{arith}
 use borrow.Author.Needs.{needs}
 use lib.Seq.{length-take-le}
 use Rattle.judge.proofs.print.Statement.{statement}

@@ -1,5 +1,5 @@
 -- The proof of `first_from`, which calls itself: each call is at a later node, so that the measure is how far the end is.
-use mathlib.Core.Path.{_≡_, sym, subst, _∙_}
+use mathlib.Core.Path.{sym, _∙_}
 use Prim.Native.Nat.{ℕ, _<_, _-_}
 use native.Mathlib.Omega.{arith}
 use borrow.Author.Needs.{needs}

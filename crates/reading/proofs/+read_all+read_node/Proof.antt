@@ -1,8 +1,7 @@
 -- The proof of the cycle of calls {read_all, read_node}. The measure is twice the levels left, and one more for all of a kind.
-use mathlib.Core.Path.{sym, ap, _∙_}
+use mathlib.Core.Path.{sym, _∙_}
 use Prim.Native.Nat.{ℕ, _+_, _<_}
 use native.Mathlib.Omega.{arith}
-use lib.ListN.{length}
 use borrow.Author.Needs.{needs}
 use Rattle.reading.specs.Spots.{spotOf}
 use Rattle.reading.specs.Storing.{storeAll, storeNode}

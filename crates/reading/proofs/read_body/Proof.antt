@@ -1,5 +1,4 @@
 -- `read_body` meets its contract: refused, text after the tree, or read.
-use mathlib.Core.Path.{sym, _∙_}
 use native.Mathlib.Omega.{arith}
 use borrow.Author.Needs.{needs}
 use Rattle.reading.proofs.Body.{body-ready, kept-ready, kept-refused, kept-after, kept-got}

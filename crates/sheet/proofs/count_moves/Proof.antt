@@ -1,7 +1,7 @@
 -- `count_moves` counts one node at each turn.
 use mathlib.Core.Path.{sym, _∙_}
 use mathlib.Core.Logic.{⊎-elim}
-use Prim.Native.Nat.{ℕ, _-_}
+use Prim.Native.Nat.{_-_}
 use native.Mathlib.Omega.{arith}
 use Rattle.nodes.proofs.Sheets.{sheet-stands}
 use Rattle.fair.proofs.WhichKind.{node-room}

@@ -1,5 +1,4 @@
 -- `judge_table` meets its contract: the refusals, or accepted with the counts.
-use mathlib.Core.Path.{sym, _∙_}
 use native.Mathlib.Omega.{arith}
 use borrow.Author.Needs.{needs}
 use Rattle.nodes.proofs.Sheets.{sheet-stands}

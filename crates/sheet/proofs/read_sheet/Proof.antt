@@ -1,5 +1,5 @@
 -- `read_sheet` meets its contract: 2, 3, the body's refusals, or a sheet that the table holds.
-use mathlib.Core.Path.{sym, _∙_}
+use mathlib.Core.Path.{_∙_}
 use native.Mathlib.Omega.{arith}
 use borrow.Author.Needs.{needs}
 use Rattle.lines.specs.Seen.{headerSeen}

@@ -12,10 +12,10 @@ use Rattle.cells.proofs.Cells.count.Statement.{statement}
 use Rattle.cells.proofs.Cells.count.Tie as tie
 
 abbrev Inv-loop : tie.InvT-loop
-Inv-loop self board n₀ i₀ i-end n i = Counting board (held board (self .rows)) i-end i n
+Inv-loop self board many₀ i₀ i-end many i = Counting board (held board (self .rows)) i-end i many
 
 abbrev μ-loop : tie.MeasureT-loop
-μ-loop self board n₀ i₀ i-end n i = i-end - i
+μ-loop self board many₀ i₀ i-end many i = i-end - i
 
 mul-i-end : tie.Need-mul-i-end Inv-loop μ-loop
 mul-i-end c = omega (arith, few-cells (c .before .args .board) (c .before .pre))
@@ -29,8 +29,8 @@ add-has c = omega arith
 has-requires : tie.Need-has-requires Inv-loop μ-loop
 has-requires c κs = search needs
 
-add-n : tie.Need-add-n Inv-loop μ-loop
-add-n c = omega arith
+add-many : tie.Need-add-many Inv-loop μ-loop
+add-many c = omega arith
 
 add-i : tie.Need-add-i Inv-loop μ-loop
 add-i c = omega arith
@@ -44,15 +44,15 @@ loop-again c =
     let a = c .before .before .before .before .before .args in
     let h = c .before .has .ensures in
     ⊎-elim
-    (λ w. rw (w .1) (counting-more (a .board) (held (a .board) (a .self .rows)) _ (l .i) (l .n) (l .inv) (c .before .before .loop-test .taken) (sym h ∙ w .0 .taken)))
-    (λ w. rw (w .1) (counting-same (a .board) (held (a .board) (a .self .rows)) _ (l .i) (l .n) (l .inv) (c .before .before .loop-test .taken) (sym h ∙ w .0 .left)))
+    (λ w. rw (w .1) (counting-more (a .board) (held (a .board) (a .self .rows)) _ (l .i) (l .many) (l .inv) (c .before .before .loop-test .taken) (sym h ∙ w .0 .taken)))
+    (λ w. rw (w .1) (counting-same (a .board) (held (a .board) (a .self .rows)) _ (l .i) (l .many) (l .inv) (c .before .before .loop-test .taken) (sym h ∙ w .0 .left)))
     (c .if1 .came)
 
 returns : tie.Need-returns Inv-loop μ-loop
 returns c =
     let l = c .before .loop in
     let a = c .before .before .before .args in
-    l .inv .counted ∙ ap length (counting-end (a .board) (held (a .board) (a .self .rows)) _ (l .i) (l .n) (l .inv) (c .loop-test .left))
+    l .inv .counted ∙ ap length (counting-end (a .board) (held (a .board) (a .self .rows)) _ (l .i) (l .many) (l .inv) (c .loop-test .left))
 
 pub count-spec : {M : Type 1} → statement M
 count-spec =
@@ -64,7 +64,7 @@ count-spec =
     loop-holds
     add-has
     has-requires
-    add-n
+    add-many
     add-i
     loop-less
     loop-again
