@@ -1,8 +1,8 @@
 -- For callers: a held sheet that is accepted can be played, and once more after that; and what the reply says of an accepted sheet.
 use mathlib.Core.Path.{_≡_, refl, ap, _∙_, subst}
 use mathlib.Core.Logic.{_⊎_}
-use Prim.Native.Nat.{ℕ}
-use mathlib.Core.Bool.{Bool, true, false}
+use Prim.Native.Nat.{ℕ, _≤_}
+use mathlib.Core.Bool.{Bool}
 use mathlib.Core.List.{List}
 use native.Mathlib.Omega.{arith}
 use lib.Dec.{T}
@@ -23,7 +23,7 @@ use Rattle.answering.specs.Playing.{Playable, shown, asPlayed, PlaysMove
 use Rattle.answering.specs.declared.PlayedOut.{PlayedOut}
 use Rattle.answering.specs.declared.PlayedOut.the-variants.{Stopped, Played}
 use Rattle.answering.proofs.Playing.{playable-same}
-use Rattle.answering.proofs.Rounds.{reached-played}
+use Rattle.answering.proofs.Rounds.{reached-played, rounds-answers}
 
 -- a sheet that the table holds weighed, and that some text is accepted as
 pub held-playable : {t : List ℕ} {b : Board} {p : Player} {s : Sheet} (w : ℕ) (text : Bytes) → HoldsSheet t b s → s .player ≡ p → accepted w text ≡ got s → Playable t b p s
@@ -43,7 +43,7 @@ held-playable {t} {b} {p} {s} w text h e a =
       };
     }
 
-module _ {s : Sheet} {t moves room : List ℕ} {write : Bool} {r : PlayedOut} {t′ room′ : List ℕ} (k : PlaysMoves s t moves room write r t′ room′) where
+module _ {s : Sheet} {t moves room : List ℕ} {r : PlayedOut} {t′ room′ : List ℕ} (k : PlaysMoves s t moves room r t′ room′) where
   -- it can be played again on the table as it is left
   pub play-again : {b : Board} {p : Player} → Playable t b p s → Playable t′ b p s
   play-again h = playable-same (k .rows .rows) h
@@ -57,12 +57,9 @@ module _ {s : Sheet} {t moves room : List ℕ} {write : Bool} {r : PlayedOut} {t
   unfolding shown
   reply-played g e = k .reply ∙ ap (shown s) e
 
-  -- the room, where nothing is asked to be written, and where all is played out
-  pub room-kept : write ≡ false → room′ ≡ room
-  room-kept e = rw e at (k .answers)
-
-  pub room-written : write ≡ true → (g : Game) → rounds s (start s) 1 moves ≡ played g → room′ ≡ roomAfter (g .answers) room
-  room-written e g f = (rw e at (k .answers)) ∙ ap (λ (h : Game). roomAfter (h .answers) room) (reached-played s moves (start s) g 1 f)
+  -- the room, where all is played out
+  pub room-written : (g : Game) → rounds s (start s) 1 moves ≡ played g → room′ ≡ roomAfter (g .answers) room
+  room-written g f = k .answers ∙ ap (λ (h : Game). roomAfter (h .answers) room) (reached-played s moves (start s) g 1 f)
 
   -- which of the two it was
   pub was-played : (n : ℕ) (over : Bool) → r ≡ Played n over → (g : Game) × (rounds s (start s) 1 moves ≡ played g)
@@ -81,7 +78,7 @@ module _ {s : Sheet} {t moves room : List ℕ} {write : Bool} {r : PlayedOut} {t
       go (stopped u at) f = f ∙ cc (reply-stopped u at f)
       go (played g) f = let z : _≡_ {A = ℕ} 0 1 = cc (reply-played g f) in absurd (omega arith)
 
-  -- what the entry replies, and what it leaves in the room: on a refusal no answers are written
+  -- what the entry replies
   pub entry-reply : asPlayed r ≡ playShown (playedOut s (rounds s (start s) 1 moves))
   unfolding shown playShown playedOut refusedPlay
   entry-reply = ap asPlayed (k .reply) ∙ go (rounds s (start s) 1 moves)
@@ -90,8 +87,11 @@ module _ {s : Sheet} {t moves room : List ℕ} {write : Bool} {r : PlayedOut} {t
       go (stopped v place) = refl
       go (played g) = refl
 
-  pub entry-played : write ≡ true → (n : ℕ) (over : Bool) → r ≡ Played n over → room′ ≡ roomAfter (playedOut s (rounds s (start s) 1 moves) .answers) room
-  unfolding playedOut
-  entry-played w n over e =
+  -- where all is played out: so many answers, which stand first in the room, and no more than moves
+  pub entry-played : (n : ℕ) (over : Bool) → r ≡ Played n over
+      → (n ≡ length (playedOut s (rounds s (start s) 1 moves) .answers)) × (room′ ≡ roomAfter (playedOut s (rounds s (start s) 1 moves) .answers) room) × (n ≤ length moves)
+  unfolding playedOut start
+  entry-played n over e =
       let g = was-played n over e in
-      rw (g .1) (room-written w (g .0) (g .1))
+      let many : n ≡ length (g .0 .answers) = cc (e, reply-played (g .0) (g .1)) in
+      rw (g .1) (many, room-written (g .0) (g .1), omega (arith, rounds-answers s moves (start s) (g .0) 1 (g .1)))

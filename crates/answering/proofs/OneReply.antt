@@ -1,7 +1,6 @@
 -- What playing a list of moves answers is one reply, one table and one room: no two are allowed.
 use mathlib.Core.Path.{_≡_, sym, _∙_, subst}
 use mathlib.Core.Logic.{_⊎_, ⊎-elim}
-use mathlib.Core.Bool.{Bool}
 use Prim.Native.Nat.{ℕ, zero, suc, _+_, _-_, _*_, _/_, _%_, _<_, _≤_}
 use native.Mathlib.Nat.{eq-zero-or-pos, div-add-mod', mod-lt}
 use native.Mathlib.Omega.{arith}
@@ -72,8 +71,8 @@ same-open {b} {t} {u} {v} {ws} p q o w = same-tables u v (same-twice (same-back 
         let e : endIn v 0 ≡ endIn u 0 = q .rows .end 0 ∙ sym (p .rows .end 0) in
         same-marks ws (o .marks) (subst (λ (n : ℕ). Open b v n 1 ws) e (w .marks)) i lo (omega (arith, p .rows .end 0))
 
-pub one-reply : {s : Sheet} {t moves room : List ℕ} {write : Bool} {r r₂ : PlayedOut} {t′ t₂ room′ room₂ : List ℕ}
-    → PlaysMoves s t moves room write r t′ room′ → PlaysMoves s t moves room write r₂ t₂ room₂ → OneReply r r₂ t′ t₂ room′ room₂
+pub one-reply : {s : Sheet} {t moves room : List ℕ} {r r₂ : PlayedOut} {t′ t₂ room′ room₂ : List ℕ}
+    → PlaysMoves s t moves room r t′ room′ → PlaysMoves s t moves room r₂ t₂ room₂ → OneReply r r₂ t′ t₂ room′ room₂
 one-reply p q =
     record {
       same-reply = p .reply ∙ sym (q .reply);

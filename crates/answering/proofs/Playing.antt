@@ -1,6 +1,6 @@
 -- The loop over the moves: the game so far, and what is left of the rounds.
 use mathlib.Core.Path.{_≡_, refl, sym, ap, ap₂, _∙_, subst}
-use mathlib.Core.Bool.{Bool, true, false, not, _||_, or-comm, or-false}
+use mathlib.Core.Bool.{Bool, false, not, _||_, or-comm, or-false}
 use Prim.Native.Nat.{ℕ, suc, _+_, _*_, _<_, _≤_}
 use native.Mathlib.Nat.{mul-le-mul}
 use native.Mathlib.Numerals.{add-one}
@@ -9,7 +9,8 @@ use mathlib.Core.List.{List, [], _∷_, _++_, append-assoc, append-nil}
 use lib.Dec.{T, eqb, leb, leb→le}
 use lib.ListN.{length, getD, set, drop, length-append, length-set, drop-of-length-le}
 use lib.Seq.{drop-cons, set-append-seam}
-use Rattle.rules.specs.Words.{among, if_then_else_}
+use Rattle.rules.specs.Sizes.{mostNodes}
+use Rattle.rules.specs.Words.{among}
 use Rattle.rules.specs.Board.{isCell, cells}
 use Rattle.rules.specs.Tree.{Waits, Sheet, stone}
 use Rattle.rules.specs.Joining.{joined}
@@ -83,12 +84,8 @@ module _ {t : List ℕ} {b : Board} {p : Player} {s : Sheet} (h : Playable t b p
         },
       )
 
--- the room, where the answers are written or not
-abbrev pub roomWith : Bool → List ℕ → List ℕ → List ℕ
-roomWith write xs room = if write then roomAfter xs room else room
-
 -- the game after i moves, by the table and the two sets of stones
-pub record Playing (b : Board) (s : Sheet) (moves room₀ : List ℕ) (write : Bool) (t room ours theirs : List ℕ) (i : ℕ) : Type 0 where
+pub record Playing (b : Board) (s : Sheet) (moves room₀ t room ours theirs : List ℕ) (i : ℕ) : Type 0 where
   pub game : Game
   pub so-far : List ℕ
   pub ruled : Ruled s (start s) so-far game
@@ -98,18 +95,18 @@ pub record Playing (b : Board) (s : Sheet) (moves room₀ : List ℕ) (write : B
   pub many : length (game .answers) ≡ i
   pub rounds-are : rounds s (start s) 1 moves ≡ rounds s game (i + 1) (drop i moves)
   pub reached-is : reached s (start s) moves ≡ reached s game (drop i moves)
-  pub room-is : room ≡ roomWith write (game .answers) room₀
+  pub so-many : length so-far ≡ i
+  pub room-is : room ≡ roomAfter (game .answers) room₀
 
 -- nothing is written yet
-no-answers : (write : Bool) (room : List ℕ) → room ≡ roomWith write [] room
+no-answers : (room : List ℕ) → room ≡ roomAfter [] room
 unfolding roomAfter
-no-answers true room = refl
-no-answers false room = refl
+no-answers room = refl
 
-pub playing-starts : {b : Board} {s : Sheet} {t room ours theirs : List ℕ} (moves : List ℕ) (write : Bool) → Opens b t (s .root .waits)
-    → ((x : ℕ) → held b ours x ≡ among (stone (s .root .cell)) x) → ((x : ℕ) → held b theirs x ≡ false) → Playing b s moves room write t room ours theirs 0
+pub playing-starts : {b : Board} {s : Sheet} {t room ours theirs : List ℕ} (moves : List ℕ) → Opens b t (s .root .waits)
+    → ((x : ℕ) → held b ours x ≡ among (stone (s .root .cell)) x) → ((x : ℕ) → held b theirs x ≡ false) → Playing b s moves room t room ours theirs 0
 unfolding start mine among
-playing-starts {b} {s} {t} {room} {ours} moves write o f g =
+playing-starts {b} {s} {t} {room} {ours} moves o f g =
     record {
       game = start s;
       so-far = [];
@@ -120,7 +117,8 @@ playing-starts {b} {s} {t} {room} {ours} moves write o f g =
       many = refl;
       rounds-are = refl;
       reached-is = refl;
-      room-is = no-answers write room;
+      so-many = refl;
+      room-is = no-answers room;
     }
 
 -- one stone more
@@ -134,9 +132,9 @@ one-more y c xs before after e f =
     ∙ sym (among-append y xs (c ∷ []))
 
 -- one answer more in the room
-pub data Wrote (write : Bool) (room later : List ℕ) (i c : ℕ) : Type 0 where
-  wrote : write ≡ true → i < length room → later ≡ set room i c → Wrote write room later i c
-  not-written : write ≡ false → later ≡ room → Wrote write room later i c
+pub record Wrote (room later : List ℕ) (i c : ℕ) : Type 0 where
+  pub there : i < length room
+  pub stored : later ≡ set room i c
 
 one-answer : (xs room₀ : List ℕ) (c : ℕ) → length xs < length room₀ → set (roomAfter xs room₀) (length xs) c ≡ roomAfter (xs ++ c ∷ []) room₀
 unfolding roomAfter
@@ -145,12 +143,11 @@ one-answer xs room₀ c h =
     rw (e, drop-cons room₀ (length xs) 0 h, set-append-seam xs (getD room₀ (length xs) 0) (drop (suc (length xs)) room₀) c)
     (sym (append-assoc xs (c ∷ []) (drop (suc (length xs)) room₀)))
 
-room-more : (write : Bool) (xs room₀ room later : List ℕ) (i c : ℕ) → length xs ≡ i → length room ≡ length room₀ → room ≡ roomWith write xs room₀ → Wrote write room later i c
-    → later ≡ roomWith write (xs ++ c ∷ []) room₀
-room-more write xs room₀ room later i c n l e (wrote w h f) =
-    rw (w, f, sym n)
-    (ap (λ (z : List ℕ). set z (length xs) c) (rw w at e) ∙ one-answer xs room₀ c (omega arith))
-room-more write xs room₀ room later i c n l e (not-written w f) = rw w (f ∙ (rw w at e))
+room-more : (xs room₀ room later : List ℕ) (i c : ℕ) → length xs ≡ i → length room ≡ length room₀ → room ≡ roomAfter xs room₀ → Wrote room later i c
+    → later ≡ roomAfter (xs ++ c ∷ []) room₀
+room-more xs room₀ room later i c n l e w =
+    rw (w .stored, sym n)
+    (ap (λ (z : List ℕ). set z (length xs) c) e ∙ one-answer xs room₀ c (omega (arith, w .there)))
 
 empty-cell : (s : Sheet) (g : Game) (x : ℕ) → T (isEmpty s g x) → T (isCell (s .board) x)
 unfolding isEmpty
@@ -160,8 +157,8 @@ mine-more : (s : Sheet) (g : Game) (x : ℕ) (k : Choice (g .open-waits)) → mi
 unfolding mine next
 mine-more s g x k = sym (append-assoc (stone (s .root .cell)) (g .answers) (taken (g .open-waits) k ∷ []))
 
-module _ {t₀ : List ℕ} {b : Board} {p : Player} {s : Sheet} (h : Playable t₀ b p s) {moves room₀ : List ℕ} {write : Bool} {t room ours theirs : List ℕ} {i : ℕ}
-    (l : Playing b s moves room₀ write t room ours theirs i) where
+module _ {t₀ : List ℕ} {b : Board} {p : Player} {s : Sheet} (h : Playable t₀ b p s) {moves room₀ t room ours theirs : List ℕ} {i : ℕ}
+    (l : Playing b s moves room₀ t room ours theirs i) where
   abbrev checkedNow : ℕ → Result (Unit {0})
   checkedNow x = checked b p (held b ours) (held b theirs) x
 
@@ -181,7 +178,7 @@ module _ {t₀ : List ℕ} {b : Board} {p : Player} {s : Sheet} (h : Playable t�
     stop-here : checked (s .board) (s .player) (among (mine s (l .game))) (among (l .game .theirs)) (getD moves i 0) ≡ refused v
     stop-here = asked-same (getD moves i 0) ∙ sym (e ∙ ap checkedNow w)
 
-    pub playing-stopped : {t₁ : List ℕ} → Remarked t₁ t → PlaysMoves s t₁ moves room₀ write (Stopped v (i + 1)) t room
+    pub playing-stopped : {t₁ : List ℕ} → Remarked t₁ t → PlaysMoves s t₁ moves room₀ (Stopped v (i + 1)) t room
     unfolding shown
     playing-stopped r =
         let a = l .rounds-are ∙ ap (rounds s (l .game) (i + 1)) (next-move q) ∙ rounds-stop s (l .game) (getD moves i 0) v (i + 1) (drop (i + 1) moves) stop-here in
@@ -190,7 +187,7 @@ module _ {t₀ : List ℕ} {b : Board} {p : Player} {s : Sheet} (h : Playable t�
 
   -- no move is left
   pub playing-done : length moves ≤ i → {t₁ : List ℕ} → Remarked t₁ t → {over : Bool} → over ≡ joined b p (held b ours)
-      → PlaysMoves s t₁ moves room₀ write (Played i over) t room
+      → PlaysMoves s t₁ moves room₀ (Played i over) t room
   unfolding shown isOver
   playing-done q r {over} e =
       let none = drop-of-length-le moves {i = i} q in
@@ -211,6 +208,13 @@ module _ {t₀ : List ℕ} {b : Board} {p : Player} {s : Sheet} (h : Playable t�
     has-answer =
         let a = h .is-accepted in
         demand-3 (a .0) (a .1) s (a .2) (l .so-far) (l .game) (l .ruled) .1 (fine-over s (l .game) x fine-here) x (fine-empty s (l .game) x fine-here)
+
+    -- there is a wait left for it, so that the answers are fewer than the nodes
+    pub playing-few : i < mostNodes
+    playing-few =
+        let a = h .is-accepted in
+        let covered = demand-3 (a .0) (a .1) s (a .2) (l .so-far) (l .game) (l .ruled) .0 in
+        omega (arith, covered .not-yet (fine-over s (l .game) x fine-here), l .so-many, sheet-read h .few-nodes)
 
     pub playing-cell : T (isCell b x)
     playing-cell = subst (λ (z : Board). T (isCell z x)) (h .on) (empty-cell s (l .game) x (fine-empty s (l .game) x fine-here))
@@ -236,7 +240,7 @@ module _ {t₀ : List ℕ} {b : Board} {p : Player} {s : Sheet} (h : Playable t�
 
       pub playing-again : i < length moves → x ≡ getD moves i 0 → length room ≡ length room₀ → {room′ ours′ theirs′ : List ℕ}
           → ((y : ℕ) → held b ours′ y ≡ (eqb y r || held b ours y)) → ((y : ℕ) → held b theirs′ y ≡ (eqb y x || held b theirs y))
-          → Wrote write room room′ i r → Playing b s moves room₀ write t′ room′ ours′ theirs′ (i + 1)
+          → Wrote room room′ i r → Playing b s moves room₀ t′ room′ ours′ theirs′ (i + 1)
       unfolding next
       playing-again q w n {room′} {ours′} {theirs′} us them put =
           let g = l .game in
@@ -265,14 +269,14 @@ module _ {t₀ : List ℕ} {b : Board} {p : Player} {s : Sheet} (h : Playable t�
                 ∙ ap (reached s g) (next-move q)
                 ∙ reached-on s g (getD moves i 0) (drop (i + 1) moves) now
                 ∙ ap (λ (z : Game). reached s z (drop (i + 1) moves)) (ap (answered g) (sym w) ∙ same);
+            so-many = omega (arith, length-append (l .so-far) (x ∷ []), l .so-many);
             room-is =
-                room-more write (g .answers) room₀ room room′ i (taken (g .open-waits) k) (l .many) n (l .room-is)
-                (subst (λ (z : ℕ). Wrote write room room′ i z) (f .cell-is) put);
+                room-more (g .answers) room₀ room room′ i (taken (g .open-waits) k) (l .many) n (l .room-is)
+                (subst (λ (z : ℕ). Wrote room room′ i z) (f .cell-is) put);
           }
 
-pub wrote-long : {write : Bool} {room later : List ℕ} {i c : ℕ} → Wrote write room later i c → length later ≡ length room
-wrote-long {room = room} {i = i} {c = c} (wrote w h f) = ap length f ∙ length-set room i c
-wrote-long (not-written w f) = ap length f
+pub wrote-long : {room later : List ℕ} {i c : ℕ} → Wrote room later i c → length later ≡ length room
+wrote-long {room = room} {i = i} {c = c} w = ap length (w .stored) ∙ length-set room i c
 
 -- a cell of a board that fits is a 32-bit number above 0
 pub cell-small : (b : Board) (x : ℕ) → Fits b → T (isCell b x) → (1 ≤ x) × (x ≤ 361)
@@ -283,8 +287,8 @@ cell-small b x f h =
     (lo, omega (arith, hi, mul-le-mul {n₁ = b .columns} {m₁ = b .rows} {n₂ = 19} {m₂ = 19} (f .few-columns) (f .few-rows)))
 
 -- the loop's invariant; the table was t₀ where the loop began
-pub record Going (b : Board) (p : Player) (moves t₀ room₀ : List ℕ) (write : Bool) (t room ours theirs : List ℕ) (i : ℕ) : Type 0 where
+pub record Going (b : Board) (p : Player) (moves t₀ room₀ t room ours theirs : List ℕ) (i : ℕ) : Type 0 where
   pub turns : i ≤ length moves
   pub rows : Remarked t₀ t
   pub long : length room ≡ length room₀
-  pub plays : (s : Sheet) → Playable t₀ b p s → Playing b s moves room₀ write t room ours theirs i
+  pub plays : (s : Sheet) → Playable t₀ b p s → Playing b s moves room₀ t room ours theirs i

@@ -1,17 +1,18 @@
 -- The rounds of a game, move by move: a move that is refused, and a move that is answered.
-use mathlib.Core.Path.{_≡_, refl}
+use mathlib.Core.Path.{_≡_, refl, sym, ap, _∙_}
 use mathlib.Core.Bool.{Bool, true, false, not, _||_}
-use mathlib.Core.Option.{some}
-use Prim.Native.Nat.{ℕ, _+_}
+use mathlib.Core.Option.{Option, none, some}
+use Prim.Native.Nat.{ℕ, _+_, _≤_}
 use native.Mathlib.Omega.{arith}
 use mathlib.Core.List.{List, [], _∷_, _++_}
 use lib.Dec.{T}
+use lib.ListN.{length, length-append}
 use Rattle.rules.specs.Words.{among}
 use Rattle.rules.specs.Board.{isCell}
 use Rattle.rules.specs.Tree.{Sheet}
 use Rattle.rules.specs.Joining.{joined}
 use Rattle.rules.specs.Reading.{Result, refused, got}
-use Rattle.rules.specs.Answering.{Game, Choice, answer, mine, isOver, isTaken, isEmpty, next, answeredBy, answered}
+use Rattle.rules.specs.Answering.{Game, Choice, taken, answer, mine, isOver, isTaken, isEmpty, next, answeredBy, answered}
 use Rattle.rules.specs.Entries.{refuseIf, _>>=_, step, stopped, played, rounds}
 use Rattle.rules.specs.Promise.{Ruled, no-move, one-move}
 use Rattle.rules.specs.declared.Board.{Board}
@@ -19,6 +20,7 @@ use Rattle.rules.specs.declared.Player.{Player}
 use Rattle.rules.specs.declared.Verdict.{Verdict}
 use Rattle.rules.specs.declared.Verdict.the-variants.{AfterOver, NoSuchCell, CellTaken}
 use Rattle.rules.proofs.Joining.{joined-same}
+use Rattle.rules.proofs.Steps.{got-inj, then-got}
 use Rattle.answering.specs.Playing.{checked, reached}
 
 -- the refusals of a move depend on the stones alone
@@ -111,6 +113,25 @@ reached-played s (x ∷ xs) g h place e = go (step s g x) refl (λ k. reached-pl
     go : (r : Result Game) → step s g x ≡ r → ((k : Game) → rounds s k (place + 1) xs ≡ played h → reached s k xs ≡ h) → reached s g (x ∷ xs) ≡ h
     go (refused v) f ih = let z : _≡_ {A = ℕ} 0 1 = cc (rw (f, rounds) at e) in absurd (omega arith)
     go (got k) f ih = rw (f, reached) (ih k (rw (f, rounds) at e))
+
+-- a move brings one answer at most, so that there are no more answers than moves
+one-answer-most : (g : Game) (x : ℕ) (k : Option (Choice (g .open-waits))) → length (answeredBy g x k .answers) ≤ length (g .answers) + 1
+unfolding answeredBy next
+one-answer-most g x none = omega arith
+one-answer-most g x (some k) = omega (arith, length-append (g .answers) (taken (g .open-waits) k ∷ []))
+
+pub rounds-answers : (s : Sheet) (xs : List ℕ) (g h : Game) (place : ℕ) → rounds s g place xs ≡ played h → length (h .answers) ≤ length (g .answers) + length xs
+unfolding rounds answered
+rounds-answers s [] g h place e = let same : g ≡ h = cc in omega (arith, ap (λ (k : Game). length (k .answers)) same)
+rounds-answers s (x ∷ xs) g h place e = go (step s g x) refl (λ k. rounds-answers s xs k h (place + 1))
+  where
+    go : (r : Result Game) → step s g x ≡ r → ((k : Game) → rounds s k (place + 1) xs ≡ played h → length (h .answers) ≤ length (k .answers) + length xs)
+        → length (h .answers) ≤ length (g .answers) + length (x ∷ xs)
+    go (refused v) f ih = let z : _≡_ {A = ℕ} 0 1 = cc (rw (f, rounds) at e) in absurd (omega arith)
+    go (got k) f ih =
+        let t = then-got (checked (s .board) (s .player) (among (mine s g)) (among (g .theirs)) x) (λ done. got (answered g x)) k (sym (step-checked s g x) ∙ f) in
+        let same : answered g x ≡ k = got-inj (t .2) in
+        omega (arith, ih k (rw (f, rounds) at e), ap (λ (j : Game). length (j .answers)) same, one-answer-most g x (answer x (g .open-waits)))
 
 -- one move more by the rule
 pub ruled-more : {s : Sheet} {g h : Game} {xs : List ℕ} (x : ℕ) → Ruled s g xs h → T (not (isOver s h)) → T (isEmpty s h x) → Ruled s g (xs ++ x ∷ []) (answered h x)

@@ -4,7 +4,6 @@ use mathlib.Core.Bool.{Bool, false, not, _||_}
 use Prim.Native.Nat.{ℕ}
 use mathlib.Core.List.{List, [], _∷_}
 use lib.ListN.{length}
-use Rattle.rules.specs.Words.{if_then_else_}
 use Rattle.rules.specs.Text.{Bytes}
 use Rattle.rules.specs.Board.{isCell}
 use Rattle.rules.specs.Tree.{Sheet}
@@ -65,10 +64,10 @@ asPlayed (Stopped v place) = record { verdict = v; place = place; answers = 0; o
 asPlayed (Played n over) = record { verdict = Done; place = 0; answers = n; over = over }
 
 -- the moves are played: the reply is that of the rounds; the table is the same up to the counts of its nodes, which mark the waits
--- that are open in the game reached; and where it is asked for the answers stand in the first places of the room, whose other places
--- are as they were
-pub record PlaysMoves (s : Sheet) (t moves room : List ℕ) (write : Bool) (r : PlayedOut) (t′ room′ : List ℕ) : Type 0 where
+-- that are open in the game reached; and the answers up to the first refused move stand in the first places of the room, whose other
+-- places are as they were
+pub record PlaysMoves (s : Sheet) (t moves room : List ℕ) (r : PlayedOut) (t′ room′ : List ℕ) : Type 0 where
   pub reply : r ≡ shown s (rounds s (start s) 1 moves)
   pub rows : Remarked t t′
   pub open-waits : Opens (s .board) t′ (reached s (start s) moves .open-waits)
-  pub answers : room′ ≡ (if write then roomAfter (reached s (start s) moves .answers) room else room)
+  pub answers : room′ ≡ roomAfter (reached s (start s) moves .answers) room

@@ -1,9 +1,9 @@
 // answering: a sheet that the node table holds is played against a list of opponent moves by the answering rule. While it is
 // played, a node's count is 1 at an open wait and 0 at every other node. It sees rules, cells and nodes.
 ghost use mathlib.Core.Path.{_≡_};
-ghost use mathlib.Core.Bool.{true};
 ghost use Prim.Native.Nat.{ℕ, _+_, _-_, _*_, _<_, _≤_};
 ghost use lib.ListN.{length};
+ghost use Rattle.rules.specs.Sizes.{mostNodes};
 ghost use Rattle.rules.specs.Tree.{Waits, wait, Moves, Sheet};
 ghost use Rattle.rules.specs.Answering.{PlaceIn, Choice};
 ghost use Rattle.rules.specs.declared.Board as declared;
@@ -209,18 +209,17 @@ fn open_start(t: &mut [u32])
     open_under(t, 0);
 }
 
-// Plays the moves: the table holds an accepted sheet. The answers are written to the room where that is asked for.
+// Plays the moves: the table holds an accepted sheet. The answers are written into the first places of the room, which has one for each wait.
 pub fn play_moves(
     t: &mut [u32],
     board: Board,
     player: Player,
     moves: &[u32],
     room: &mut [u32],
-    write: bool,
 ) -> PlayedOut
     requires holds { ⌜ SomePlayable (now t) board player ⌝ }
-    requires enough { ⌜ (write ≡ true → length (now moves) ≤ length (now room)) ⌝ }
-    ensures { λ r. ⌜ ((s : Sheet) → Playable (now (t .entry)) board player s → PlaysMoves s (now (t .entry)) (now (moves .entry)) (now (room .entry)) write r (now (t .exit)) (now (room .exit))) ⌝ }
+    requires enough { ⌜ mostNodes ≤ length (now room) ⌝ }
+    ensures { λ r. ⌜ ((s : Sheet) → Playable (now (t .entry)) board player s → PlaysMoves s (now (t .entry)) (now (moves .entry)) (now (room .entry)) r (now (t .exit)) (now (room .exit))) ⌝ }
 {
     open_start(t);
     let root = cell_at(t, 0);
@@ -237,9 +236,7 @@ pub fn play_moves(
         let answer = answer_to(t, cell);
         mine = mine.with(board, answer);
         theirs = theirs.with(board, cell);
-        if write {
-            room[i] = answer as u32;
-        }
+        room[i] = answer as u32;
         i += 1;
     }
     PlayedOut::Played {

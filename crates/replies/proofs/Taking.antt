@@ -3,7 +3,7 @@ use mathlib.Core.Path.{_≡_}
 use Prim.Native.Nat.{ℕ, _≤_}
 use lib.ListN.{length}
 use Rattle.rules.specs.Text.{Bytes}
-use Rattle.replies.specs.Window.{Within, TakenWithin, LineOf, LineWithin, TextWithin}
+use Rattle.replies.specs.Window.{Within, TakenWithin, LineOf, LineWithin, TextOf, TextWithin}
 use Rattle.replies.specs.Answered.{AnsweredWithin}
 use Rattle.replies.specs.declared.Window.{Window}
 use Rattle.replies.specs.declared.Line.{Line}
@@ -24,7 +24,7 @@ pub got-line : {buffer line : Bytes} {r : Line} {n : ℕ} {w : Window} → LineW
 got-line h e = rw e at h
 
 -- a text was taken
-pub got-text : {buffer : Bytes} {r : Text} {w : Window} → TextWithin buffer r → r ≡ Text.Got w → Within buffer w
+pub got-text : {bytes : ℕ} {buffer : Bytes} {r : Text} {w : Window} → TextWithin bytes buffer r → r ≡ Text.Got w → TextOf bytes buffer w
 got-text h e = rw e at h
 
 -- a request was answered, and more may follow

@@ -1,5 +1,5 @@
 -- The part of the buffer that was read and not yet taken lies in the buffer.
-use Prim.Native.Nat.{ℕ, _≤_}
+use Prim.Native.Nat.{ℕ, _+_, _≤_}
 use lib.ListN.{length}
 use Rattle.rules.specs.Text.{Bytes}
 use Rattle.replies.specs.declared.Window.{Window}
@@ -28,6 +28,16 @@ LineWithin buffer line (Line.Got n w) = LineOf buffer line n w
 LineWithin buffer line Line.End = Unit {0}
 LineWithin buffer line Line.Malformed = Unit {0}
 
-abbrev pub TextWithin : Bytes → Text → Type 0
-TextWithin buffer (Text.Got w) = Within buffer w
-TextWithin buffer Text.Short = Unit {0}
+-- the buffer has a place for so many bytes from the window's start on
+pub record PlaceFor (bytes : ℕ) (buffer : Bytes) (w : Window) : Type 0 where
+  pub window : Within buffer w
+  pub place : w .start + bytes ≤ length buffer
+
+-- the window has so many bytes
+pub record TextOf (bytes : ℕ) (buffer : Bytes) (w : Window) : Type 0 where
+  pub window : Within buffer w
+  pub text : w .start + bytes ≤ w .end
+
+abbrev pub TextWithin : (bytes : ℕ) → Bytes → Text → Type 0
+TextWithin bytes buffer (Text.Got w) = TextOf bytes buffer w
+TextWithin bytes buffer Text.Short = Unit {0}

@@ -4,7 +4,7 @@ ghost use mathlib.Core.Path.{_≡_};
 ghost use mathlib.Core.Bool.{true};
 ghost use Prim.Native.Nat.{_+_, _*_, _≤_};
 ghost use lib.ListN.{length, getD};
-ghost use Rattle.replies.specs.Window.{Within, TakenWithin, LineWithin, TextWithin};
+ghost use Rattle.replies.specs.Window.{Within, TakenWithin, LineWithin, PlaceFor, TextOf, TextWithin};
 ghost use Rattle.replies.specs.Answered.{AnsweredWithin};
 ghost use mathlib.Core.List.{_++_};
 ghost use Rattle.report.specs.Line.{lineOf};
@@ -236,7 +236,7 @@ fn read_request(line: &[u8], numbers: &mut [u32]) -> RequestRead
     request_of(ask, numbers, count)
 }
 
-// What stands in every place of the memory that is lent, so that each change shows: no number of a sheet is so large.
+// What stands in every place of the memory that is lent, so that each change shows: all bits 1, and no number of a sheet is so large.
 const FILLING: u32 = 4294967295;
 
 // The bytes of the buffer that were read and not yet taken: from start up to end.
@@ -319,53 +319,90 @@ fn take_line(buffer: &mut [u8], window: Window, line: &mut [u8]) -> Line
     Line::Malformed
 }
 
-// A sheet's text as it was taken from the input: the window after it; or the input ends in it.
+// A sheet's text as it lies in the buffer: at the front of the window; or the input ends in it.
 enum Text {
     Got { window: Window },
     Short,
 }
 
-// Takes as many bytes of the input as the text has room for.
-fn take_text(buffer: &mut [u8], window: Window, text: &mut [u8]) -> Text
+// Moves the bytes of the window to the front of the buffer.
+fn to_front(buffer: &mut [u8], window: Window) -> Window
     requires { ⌜ Within (now buffer) window ⌝ }
-    ensures { λ r. ⌜ TextWithin (now (buffer .exit)) r ⌝ }
+    ensures { λ r. ⌜ (Within (now (buffer .exit)) r) × (r .start ≡ 0) ⌝ }
 {
-    let mut rest = window;
-    let mut n = 0;
-    while n < text.len() {
-        let Taken::Byte { byte, window: next } = take_byte(buffer, rest) else {
-            return Text::Short;
-        };
-        text[n] = byte;
-        rest = next;
-        n += 1;
-    }
-    Text::Got { window: rest }
-}
-
-// Whether the memory from a place on is as it was lent.
-fn kept(memory: &[u32], from: usize) -> bool {
-    let mut i = from;
-    while i < memory.len() {
-        if memory[i] != FILLING {
-            return false;
-        }
+    let start = window.start;
+    let left = window.end - start;
+    let mut i = 0;
+    while i < left {
+        buffer[i] = buffer[start + i];
         i += 1;
     }
-    true
+    Window {
+        start: 0,
+        end: left,
+    }
 }
 
-// Whether the first n numbers of the memory are 0.
+// The window, moved where the buffer has no place for so many bytes from its start on.
+fn placed(buffer: &mut [u8], window: Window, bytes: usize) -> Window
+    requires { ⌜ (Within (now buffer) window) × (bytes ≤ length (now buffer)) ⌝ }
+    ensures { λ r. ⌜ PlaceFor bytes (now (buffer .exit)) r ⌝ }
+{
+    if bytes <= buffer.len() - window.start {
+        return window;
+    }
+    to_front(buffer, window)
+}
+
+// Reads on until the window has as many bytes as the text.
+fn take_text(buffer: &mut [u8], window: Window, bytes: usize) -> Text
+    requires { ⌜ PlaceFor bytes (now buffer) window ⌝ }
+    ensures { λ r. ⌜ TextWithin bytes (now (buffer .exit)) r ⌝ }
+{
+    let start = window.start;
+    let mut end = window.end;
+    while end - start < bytes {
+        let got = refill(&mut buffer[end..]);
+        if got == 0 {
+            return Text::Short;
+        }
+        end += got;
+    }
+    Text::Got {
+        window: Window { start, end },
+    }
+}
+
+// Fills the first n numbers of the memory, which are lent.
+fn fill(memory: &mut [u32], n: usize)
+    requires { ⌜ n ≤ length (now memory) ⌝ }
+{
+    for i in 0..n {
+        memory[i] = FILLING;
+    }
+}
+
+// Whether the memory from a place on is as it was lent: all its bits are 1.
+fn kept(memory: &[u32], from: usize) -> bool {
+    let mut all = FILLING;
+    let mut i = from;
+    while i < memory.len() {
+        all &= memory[i];
+        i += 1;
+    }
+    all == FILLING
+}
+
+// Whether the first n numbers of the memory are 0: none of their bits is 1.
 fn cleared(memory: &[u32], n: usize) -> bool {
     if memory.len() < n {
         return false;
     }
+    let mut any: u32 = 0;
     for i in 0..n {
-        if memory[i] != 0 {
-            return false;
-        }
+        any |= memory[i];
     }
-    true
+    any == 0
 }
 
 // Whether the workspace is what document 01 lays down after a reply with the number.
@@ -500,15 +537,19 @@ fn answer_outcome(text: &[u8], number: u32, room: &mut [u32], workspace: &mut [u
 }
 
 // Answers a request whose sheet was taken, with as much memory lent as it says.
-fn answer(text: &[u8], request: Request, numbers: &[u32])
-    requires { ⌜ (RequestOf (now numbers) request) × (length (now numbers) ≡ 403) ⌝ }
+fn answer_lent(
+    text: &[u8],
+    request: Request,
+    numbers: &[u32],
+    workspace: &mut [u32],
+    room: &mut [u32],
+)
+    requires { ⌜ (RequestOf (now numbers) request) × (length (now numbers) ≡ 403) × (length (now workspace) ≡ 9000) × (length (now room) ≡ 1000) ⌝ }
 {
     let ask = request.ask;
     let count = request.count;
     let work = request.work;
     let lent = request.room;
-    let mut workspace = [FILLING; 9000];
-    let mut room = [FILLING; 1000];
     match ask {
         Ask::Judge => answer_judge(text, &mut workspace[..work]),
         Ask::Play => answer_play(
@@ -521,44 +562,79 @@ fn answer(text: &[u8], request: Request, numbers: &[u32])
     }
 }
 
+// Fills the memory that a request is lent, and answers it.
+fn answer(text: &[u8], request: Request, numbers: &[u32], workspace: &mut [u32], room: &mut [u32])
+    requires { ⌜ (RequestOf (now numbers) request) × (length (now numbers) ≡ 403) × (length (now workspace) ≡ 9000) × (length (now room) ≡ 1000) ⌝ }
+{
+    fill(workspace, request.work);
+    fill(room, request.room);
+    answer_lent(text, request, numbers, workspace, room);
+}
+
 // Whether requests go on, and with which window.
 enum Answered {
     On { window: Window },
     Last,
 }
 
-// Takes the sheet of a request into the text, and answers it.
+// Answers a request whose sheet is at the front of the window.
 fn answer_text(
     buffer: &mut [u8],
     window: Window,
     request: Request,
     numbers: &[u32],
-    text: &mut [u8],
+    workspace: &mut [u32],
+    room: &mut [u32],
 ) -> Answered
-    requires { ⌜ (Within (now buffer) window) × (RequestOf (now numbers) request) × (length (now numbers) ≡ 403) ⌝ }
+    requires text { ⌜ TextOf (request .bytes) (now buffer) window ⌝ }
+    requires asked { ⌜ (RequestOf (now numbers) request) × (length (now numbers) ≡ 403) ⌝ }
+    requires lent { ⌜ (length (now workspace) ≡ 9000) × (length (now room) ≡ 1000) ⌝ }
     ensures { λ r. ⌜ AnsweredWithin (now (buffer .exit)) r ⌝ }
 {
-    let Text::Got { window: rest } = take_text(buffer, window, text) else {
+    let start = window.start;
+    let next = start + request.bytes;
+    answer(&buffer[start..next], request, numbers, workspace, room);
+    Answered::On {
+        window: Window {
+            start: next,
+            end: window.end,
+        },
+    }
+}
+
+// Takes the sheet of a request, and answers it.
+fn answer_request(
+    buffer: &mut [u8],
+    window: Window,
+    request: Request,
+    numbers: &[u32],
+    workspace: &mut [u32],
+    room: &mut [u32],
+) -> Answered
+    requires within { ⌜ (Within (now buffer) window) × (65536 ≤ length (now buffer)) ⌝ }
+    requires asked { ⌜ (RequestOf (now numbers) request) × (length (now numbers) ≡ 403) ⌝ }
+    requires lent { ⌜ (length (now workspace) ≡ 9000) × (length (now room) ≡ 1000) ⌝ }
+    ensures { λ r. ⌜ AnsweredWithin (now (buffer .exit)) r ⌝ }
+{
+    let bytes = request.bytes;
+    let ready = placed(buffer, window, bytes);
+    let Text::Got { window: rest } = take_text(buffer, ready, bytes) else {
         say_request();
         return Answered::Last;
     };
-    answer(text, request, numbers);
-    Answered::On { window: rest }
-}
-
-// Answers a request whose line was taken.
-fn answer_request(buffer: &mut [u8], window: Window, request: Request, numbers: &[u32]) -> Answered
-    requires { ⌜ (Within (now buffer) window) × (RequestOf (now numbers) request) × (length (now numbers) ≡ 403) ⌝ }
-    ensures { λ r. ⌜ AnsweredWithin (now (buffer .exit)) r ⌝ }
-{
-    let mut text = [0u8; 65536];
-    let bytes = request.bytes;
-    answer_text(buffer, window, request, numbers, &mut text[..bytes])
+    answer_text(buffer, rest, request, numbers, workspace, room)
 }
 
 // Answers the request that has the line.
-fn answer_line(buffer: &mut [u8], window: Window, line: &[u8]) -> Answered
-    requires { ⌜ Within (now buffer) window ⌝ }
+fn answer_line(
+    buffer: &mut [u8],
+    window: Window,
+    line: &[u8],
+    workspace: &mut [u32],
+    room: &mut [u32],
+) -> Answered
+    requires within { ⌜ (Within (now buffer) window) × (65536 ≤ length (now buffer)) ⌝ }
+    requires lent { ⌜ (length (now workspace) ≡ 9000) × (length (now room) ≡ 1000) ⌝ }
     ensures { λ r. ⌜ AnsweredWithin (now (buffer .exit)) r ⌝ }
 {
     let mut numbers = [0u32; 403];
@@ -566,12 +642,19 @@ fn answer_line(buffer: &mut [u8], window: Window, line: &[u8]) -> Answered
         say_request();
         return Answered::Last;
     };
-    answer_request(buffer, window, request, &numbers)
+    answer_request(buffer, window, request, &numbers, workspace, room)
 }
 
 // Takes the next line of the input, and answers the request that has it.
-fn next_line(buffer: &mut [u8], window: Window, line: &mut [u8]) -> Answered
-    requires { ⌜ Within (now buffer) window ⌝ }
+fn answer_next(
+    buffer: &mut [u8],
+    window: Window,
+    line: &mut [u8],
+    workspace: &mut [u32],
+    room: &mut [u32],
+) -> Answered
+    requires within { ⌜ (Within (now buffer) window) × (65536 ≤ length (now buffer)) ⌝ }
+    requires lent { ⌜ (length (now workspace) ≡ 9000) × (length (now room) ≡ 1000) ⌝ }
     ensures { λ r. ⌜ AnsweredWithin (now (buffer .exit)) r ⌝ }
 {
     let taken = take_line(buffer, window, line);
@@ -584,26 +667,21 @@ fn next_line(buffer: &mut [u8], window: Window, line: &mut [u8]) -> Answered
         Line::Got {
             length,
             window: rest,
-        } => answer_line(buffer, rest, &line[..length]),
+        } => answer_line(buffer, rest, &line[..length], workspace, room),
     }
-}
-
-// Answers the next request, whose line is shorter than the place for it.
-fn answer_next(buffer: &mut [u8], window: Window) -> Answered
-    requires { ⌜ Within (now buffer) window ⌝ }
-    ensures { λ r. ⌜ AnsweredWithin (now (buffer .exit)) r ⌝ }
-{
-    let mut line = [0u8; 4500];
-    next_line(buffer, window, &mut line)
 }
 
 // Answers requests until the input ends or one is malformed. A proved loop has to end, so it counts its turns down from a number that no
 // run uses up.
-fn answer_all(buffer: &mut [u8]) {
+fn answer_all(buffer: &mut [u8], line: &mut [u8], workspace: &mut [u32], room: &mut [u32])
+    requires long { ⌜ 65536 ≤ length (now buffer) ⌝ }
+    requires lent { ⌜ (length (now workspace) ≡ 9000) × (length (now room) ≡ 1000) ⌝ }
+{
     let mut window = Window { start: 0, end: 0 };
     let mut turns = u64::MAX;
     while turns > 0 {
-        let Answered::On { window: rest } = answer_next(buffer, window) else {
+        let Answered::On { window: rest } = answer_next(buffer, window, line, workspace, room)
+        else {
             return;
         };
         window = rest;
@@ -611,8 +689,11 @@ fn answer_all(buffer: &mut [u8]) {
     }
 }
 
-// Answers the requests of standard input by way of a buffer.
+// Answers the requests of standard input by way of a buffer for two sheets, with places for a line and for the memory that is lent.
 fn main() {
-    let mut buffer = [0u8; 65536];
-    answer_all(&mut buffer);
+    let mut buffer = [0u8; 131072];
+    let mut line = [0u8; 4500];
+    let mut workspace = [0u32; 9000];
+    let mut room = [0u32; 1000];
+    answer_all(&mut buffer, &mut line, &mut workspace, &mut room);
 }

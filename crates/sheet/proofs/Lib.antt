@@ -6,3 +6,4 @@ pub mod Accepting
 pub mod Naming
 pub mod Playing
 pub mod Promise
+pub mod Copying

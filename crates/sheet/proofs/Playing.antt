@@ -1,11 +1,11 @@
 -- Play's checks one after another, and what it replies.
-use mathlib.Core.Path.{_≡_, refl, sym, ap, _∙_, subst, subst⁻¹}
-use mathlib.Core.Bool.{Bool, true, false}
+use mathlib.Core.Path.{_≡_, sym, ap, _∙_, subst, subst⁻¹}
+use mathlib.Core.Bool.{Bool}
 use mathlib.Core.List.{List, _++_}
 use Prim.Native.Nat.{ℕ, _≤_, _<_}
 use native.Mathlib.Omega.{arith}
 use lib.Dec.{ltb}
-use lib.ListN.{length, drop, replicate}
+use lib.ListN.{length, drop, replicate, length-append}
 use borrow.Author.Tests.{lt-ltb, le-ltb}
 use Rattle.rules.specs.Sizes.{leastWorkspace}
 use Rattle.rules.specs.Text.{Bytes}
@@ -21,12 +21,13 @@ use Rattle.rules.specs.declared.Verdict.the-variants.{Done, SmallWorkspace, Sho
 use Rattle.answering.specs.Playing.{Playable, PlaysMoves, asPlayed}
 use Rattle.answering.specs.declared.PlayedOut.{PlayedOut}
 use Rattle.answering.specs.declared.PlayedOut.the-variants as out
-use Rattle.answering.proofs.Held.{held-playable, room-kept, was-stopped, entry-reply, entry-played}
+use Rattle.answering.proofs.Held.{held-playable, was-stopped, entry-reply, entry-played}
 use Rattle.sheet.specs.Kept.{readText, SheetHeld, checked, IsAccepted, AcceptReply}
-use Rattle.sheet.specs.Playing.{PlayedKept}
+use Rattle.sheet.specs.Playing.{PlayedKept, Copied}
 use Rattle.sheet.specs.declared.FairRead.{FairRead}
 use Rattle.sheet.specs.declared.FairRead.the-variants as FairRead
 use Rattle.sheet.proofs.Accepting.{text-accepted}
+use Rattle.sheet.proofs.Copying.{copied-room}
 
 -- a refusal gives no answers, and leaves the room as it was
 pub played-refused : (o : PlayReply) (v : Verdict) (place : ℕ) (room : List ℕ) (r : Played) → o ≡ refusedPlay v place → r ≡ playShown (refusedPlay v place) → PlayedKept o room r room
@@ -37,22 +38,35 @@ played-refused o v place room r e q = record { reply-is = q ∙ ap playShown (sy
 pub played-as : {o o′ : PlayReply} {room room′ : List ℕ} {r : Played} → o ≡ o′ → PlayedKept o′ room r room′ → PlayedKept o room r room′
 played-as {o} {o′} {room} {room′} {r} e k = subst⁻¹ (λ (z : PlayReply). PlayedKept z room r room′) e k
 
--- a first run, without writing
-module _ (s : Sheet) {t moves room : List ℕ} {tried : PlayedOut} {t′ room′ : List ℕ} (k : PlaysMoves s t moves room false tried t′ room′) where
-  pub table-stopped : (v : Verdict) (place : ℕ) (r : Played) → tried ≡ out.Stopped v place → r ≡ playShown (refusedPlay v place) → PlayedKept (playedOut s (rounds s (start s) 1 moves)) room r room′
+-- the moves are played, with the answers kept apart: refused, or copied into the room
+module _ (s : Sheet) {t moves kept : List ℕ} {o : PlayedOut} {t′ kept′ : List ℕ} (k : PlaysMoves s t moves kept o t′ kept′) where
+  pub apart-stopped : (v : Verdict) (place : ℕ) (room : List ℕ) (r : Played) → o ≡ out.Stopped v place → r ≡ playShown (refusedPlay v place)
+      → PlayedKept (playedOut s (rounds s (start s) 1 moves)) room r room
   unfolding playedOut
-  table-stopped v place r e q =
-      subst⁻¹ (PlayedKept (playedOut s (rounds s (start s) 1 moves)) room r) (room-kept k refl)
-      (played-refused _ v place room r (ap (playedOut s) (was-stopped k v place e)) q)
+  apart-stopped v place room r e q = played-refused _ v place room r (ap (playedOut s) (was-stopped k v place e)) q
 
-  -- and a second one, that writes
-  pub table-played : {last : PlayedOut} {t″ room″ : List ℕ} → PlaysMoves s t′ moves room′ true last t″ room″ → (n : ℕ) (over : Bool) (r : Played) → tried ≡ out.Played n over
-      → r ≡ record { verdict = Done; place = 0; answers = n; over = over } → PlayedKept (playedOut s (rounds s (start s) 1 moves)) room r room″
-  table-played {last} {t″} {room″} l n over r e q =
-      record {
-        reply-is = q ∙ sym (ap asPlayed e) ∙ entry-reply k;
-        room-is = entry-played l refl n over (l .reply ∙ sym (k .reply) ∙ e) ∙ ap (roomAfter (playedOut s (rounds s (start s) 1 moves) .answers)) (room-kept k refl);
-      }
+  module _ (n : ℕ) (over : Bool) (e : o ≡ out.Played n over) where
+    -- there is room for them
+    pub apart-few : n ≤ length moves
+    apart-few = entry-played k n over e .2
+
+    pub apart-kept : n ≤ length kept′
+    unfolding roomAfter
+    apart-kept =
+        let p = entry-played k n over e in
+        let xs = playedOut s (rounds s (start s) 1 moves) .answers in
+        omega (arith, p .0, ap length (p .1), length-append xs (drop (length xs) kept))
+
+    pub apart-played : (room room′ : List ℕ) (r : Played) → length moves ≤ length room → Copied kept′ room n room′ → r ≡ record { verdict = Done; place = 0; answers = n; over = over }
+        → PlayedKept (playedOut s (rounds s (start s) 1 moves)) room r room′
+    unfolding roomAfter
+    apart-played room room′ r h c q =
+        let p = entry-played k n over e in
+        let xs = playedOut s (rounds s (start s) 1 moves) .answers in
+        record {
+          reply-is = q ∙ sym (ap asPlayed e) ∙ entry-reply k;
+          room-is = copied-room xs (drop (length xs) kept) room room′ (rw (p .1, p .0) at c) (omega (arith, p .0, p .2));
+        }
 
 -- of an accepted text, or one that is refused
 module _ (t : Bytes) (moves : List ℕ) (room : ℕ) where

@@ -4,7 +4,7 @@ ghost use mathlib.Core.Path.{_≡_};
 ghost use Prim.Native.Nat.{ℕ, _≤_};
 ghost use Rattle.rules.specs.Text.{Bytes};
 ghost use lib.ListN.{length, replicate};
-ghost use Rattle.rules.specs.Sizes.{leastWorkspace};
+ghost use Rattle.rules.specs.Sizes.{mostNodes, leastWorkspace};
 ghost use Rattle.rules.specs.Tree.{Sheet, moveCount};
 ghost use Rattle.rules.specs.declared.Board as declared;
 ghost use Rattle.nodes.specs.Sheets.{HoldsSheet, SomeSheet};
@@ -14,7 +14,7 @@ ghost use Rattle.answering.specs.Playing.{Playable, SomePlayable};
 ghost use Rattle.sheet.specs.Kept.{SheetHeld, SheetReply, FairReply, checked, AcceptReply};
 ghost use Rattle.rules.specs.Reading.{refused};
 ghost use Rattle.sheet.specs.Naming.{listing, naming, HasOutcome, SomeOutcome, NamedKept};
-ghost use Rattle.sheet.specs.Playing.{SomeText, PlayedKept};
+ghost use Rattle.sheet.specs.Playing.{SomeText, PlayedKept, Copied};
 use answering::PlayedOut;
 use answering::play_moves;
 use cells::Cells;
@@ -286,7 +286,49 @@ fn unplayed(verdict: Verdict, place: usize) -> Played
     }
 }
 
-// Plays the moves on the accepted sheet in the table, once to see whether one is refused and then for the answers: 15, 16, 17, or done.
+// Copies the first answers into the first places of the room.
+fn write_answers(answers: &[u32], many: usize, room: &mut [u32])
+    requires { ⌜ (many ≤ length (now answers)) × (many ≤ length (now room)) ⌝ }
+    ensures { λ _. ⌜ Copied (now (answers .entry)) (now (room .entry)) many (now (room .exit)) ⌝ }
+{
+    for i in 0..many {
+        room[i] = answers[i];
+    }
+}
+
+// Plays the moves on the accepted sheet in the table: 15, 16, 17, or done. The answers are kept apart until no move is refused.
+fn play_apart(
+    table: &mut [u32],
+    board: Board,
+    player: Player,
+    moves: &[u32],
+    answers: &mut [u32],
+    room: &mut [u32],
+) -> Played
+    requires holds { ⌜ SomePlayable (now table) board player ⌝ }
+    requires kept { ⌜ mostNodes ≤ length (now answers) ⌝ }
+    requires enough { ⌜ length (now moves) ≤ length (now room) ⌝ }
+    ensures { λ r. ⌜ ((s : Sheet) → Playable (now (table .entry)) board player s → PlayedKept (playedOut s (rounds s (start s) 1 (now (moves .entry)))) (now (room .entry)) r (now (room .exit))) ⌝ }
+{
+    let played = play_moves(table, board, player, moves, answers);
+    match played {
+        PlayedOut::Stopped { verdict, place } => unplayed(verdict, place),
+        PlayedOut::Played {
+            answers: many,
+            over,
+        } => {
+            write_answers(answers, many, room);
+            Played {
+                verdict: Verdict::Done,
+                place: 0,
+                answers: many,
+                over,
+            }
+        }
+    }
+}
+
+// The same, with a place for the answer of each wait that a sheet can have.
 fn play_table(
     table: &mut [u32],
     board: Board,
@@ -298,19 +340,8 @@ fn play_table(
     requires enough { ⌜ length (now moves) ≤ length (now room) ⌝ }
     ensures { λ r. ⌜ ((s : Sheet) → Playable (now (table .entry)) board player s → PlayedKept (playedOut s (rounds s (start s) 1 (now (moves .entry)))) (now (room .entry)) r (now (room .exit))) ⌝ }
 {
-    let tried = play_moves(table, board, player, moves, room, false);
-    match tried {
-        PlayedOut::Stopped { verdict, place } => unplayed(verdict, place),
-        PlayedOut::Played { answers, over } => {
-            let _ = play_moves(table, board, player, moves, room, true);
-            Played {
-                verdict: Verdict::Done,
-                place: 0,
-                answers,
-                over,
-            }
-        }
-    }
+    let mut answers = [0u32; 2048];
+    play_apart(table, board, player, moves, &mut answers, room)
 }
 
 // Plays the sheet in the table: 10 to 13, 14, and then for each move in turn 15, 16, 17; or done.

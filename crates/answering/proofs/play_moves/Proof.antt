@@ -1,8 +1,7 @@
 -- At the loop's head the game so far is that of the first i moves; the measure is how many are left.
 use borrow.Author.Needs.{needs, scaled-fits}
 use mathlib.Core.Path.{_≡_, refl, sym, ap, _∙_}
-use mathlib.Core.Logic.{⊎-elim}
-use mathlib.Core.Bool.{Bool, true, _||_}
+use mathlib.Core.Bool.{Bool, _||_}
 use Prim.Native.Nat.{ℕ, _+_, _-_, _*_, _^_, _<_}
 use native.Mathlib.Omega.{arith}
 use lib.Dec.{T}
@@ -17,16 +16,16 @@ use Rattle.cells.specs.Cells.{held}
 use Rattle.answering.specs.Rows.{Remarked}
 use Rattle.answering.specs.Playing.{Playable, refusalOf, checked}
 use Rattle.answering.proofs.Rows.{remarked-self, same-back, remarked-twice, at-ended}
-use Rattle.answering.proofs.Playing.{Going, playable-same, board-fits, root-ended, started-open, playing-starts, playing-stopped, playing-done, playing-cell, playing-asked, playing-rows, playing-answer, playing-again, cell-small, wrote, not-written, wrote-long}
+use Rattle.answering.proofs.Playing.{Going, playable-same, board-fits, root-ended, started-open, playing-starts, playing-stopped, playing-done, playing-few, playing-cell, playing-asked, playing-rows, playing-answer, playing-again, cell-small, Wrote, wrote-long}
 use Rattle.answering.proofs.play_moves.Statement.{statement}
 use Rattle.answering.proofs.play_moves.Tie as tie
 
 abbrev Inv-loop : tie.InvT-loop
-Inv-loop t₀ board player moves room₀ write root mine₀ theirs₀ i₀ t room mine theirs i =
-    Going board player moves t₀ room₀ write t room (mine .rows) (theirs .rows) i
+Inv-loop t₀ board player moves room₀ root mine₀ theirs₀ i₀ t room mine theirs i =
+    Going board player moves t₀ room₀ t room (mine .rows) (theirs .rows) i
 
 abbrev μ-loop : tie.MeasureT-loop
-μ-loop t₀ board player moves room₀ write root mine₀ theirs₀ i₀ t room mine theirs i = length moves - i
+μ-loop t₀ board player moves room₀ root mine₀ theirs₀ i₀ t room mine theirs i = length moves - i
 
 -- places on the way: the entry, the loop's start, a turn, its refusals, its answer
 abbrev entry : tie.After-open-start Inv-loop μ-loop → tie.Start Inv-loop μ-loop
@@ -83,7 +82,7 @@ loop-holds c =
       plays = λ s h.
           let k = playable-same (same-back (begun o .rows)) h in
           let b = entry o .args .board in
-          playing-starts _ _ (started-open k (o .open-start .ensures _ _ (at-ended (k .root))) .1)
+          playing-starts _ (started-open k (o .open-start .ensures _ _ (at-ended (k .root))) .1)
           (λ x.
           c .before .with-stone .ensures x
           ∙ ap (λ (y : Bool). y || among (stone (c .before .before .before .cell-at .result)) x) (c .before .before .empty .ensures .1 b x)
@@ -172,47 +171,50 @@ with-requires-2 c κs =
 
 cast-room : tie.Need-cast-room Inv-loop μ-loop
 cast-room c =
-    let a = replied (c .before) in
+    let a = replied c in
     let small = cell-small _ _ (board-fits (sheet-of (opened (turn (tested (told a)) .before)))) (answer-cell a) .1 in
     record { fits = omega (arith, small) }
 
 -- there is room for the answer
-room-there : (c : tie.In-loop Inv-loop μ-loop) → entry (opened (c .before)) .args .write ≡ true → c .before .loop .i < length (c .before .loop .room)
-room-there c w = omega (arith, c .loop-test .taken, entry (opened (c .before)) .pre .1 w, c .before .loop .inv .long)
+room-there : (c : tie.After-answer-to Inv-loop μ-loop) → turn (tested (told c)) .before .loop .i < length (turn (tested (told c)) .before .loop .room)
+room-there c =
+    let l = turn (tested (told c)) .before in
+    let h = sheet-of (opened l) in
+    omega (arith, playing-few h (l .loop .inv .plays _ h) _ (fine-move (told c)), entry (opened l) .pre .1, l .loop .inv .long)
 
 room-small : (c : tie.Start Inv-loop μ-loop) → length (c .args .room .now) * 4 < 2 ^ 63
 room-small c = search needs
 
 slice-write-room : tie.Need-slice-write-room Inv-loop μ-loop
-slice-write-room c = room-there (turn (tested (told (replied (c .before))))) (c .if1 .taken)
+slice-write-room c = room-there (replied c)
 
 mul-room : tie.Need-mul-room Inv-loop μ-loop
 mul-room c =
-    let l = turn (tested (told (replied (c .before)))) .before in
+    let l = turn (tested (told (replied c))) .before in
     scaled-fits _ (length (l .loop .room)) 4 (slice-write-room c) (rw (l .loop .inv .long) (room-small (entry (opened l))))
 
 add-i : tie.Need-add-i Inv-loop μ-loop
-add-i c = one-further (turn (tested (told (replied (c .before)))))
+add-i c = one-further (turn (tested (told (replied c))))
 
 loop-less : tie.Need-loop-less Inv-loop μ-loop
 loop-less c = omega arith
 
 loop-again : tie.Need-loop-again Inv-loop μ-loop
 loop-again c =
-    let a = replied (c .before) in
+    let a = replied c in
     let f = fine-move (told a) in
     let r = tested (told a) in
     let q = turn r in
     let l = q .before in
     let h = sheet-of (opened l) in
-    let put = ⊎-elim (λ w. wrote (w .0 .taken) (room-there q (w .0 .taken)) (w .1)) (λ w. not-written (w .0 .left) (w .1)) (c .if1 .came) in
+    let put : Wrote (l .loop .room) _ (l .loop .i) (a .answer-to .result) = record { there = room-there a; stored = refl } in
     record {
       turns = omega (arith, q .loop-test .taken);
       rows = remarked-twice (l .loop .inv .rows) (playing-rows h (l .loop .inv .plays _ h) _ f (a .answer-to .ensures));
       long = wrote-long put ∙ l .loop .inv .long;
       plays = λ s k.
           playing-again k (l .loop .inv .plays s k) _ f (a .answer-to .ensures) (q .loop-test .taken) (r .before .wide .ensures) (l .loop .inv .long)
-          (c .before .before .with .ensures) (c .before .with2 .ensures) put;
+          (c .before .with .ensures) (c .with2 .ensures) put;
     }
 
 joins-requires : tie.Need-joins-requires Inv-loop μ-loop
