@@ -1,9 +1,9 @@
 -- What `grown` does: a cell of s is taken in exactly where a neighbour of it is there.
-use mathlib.Core.Path.{_≡_, sym, _∙_, subst}
+use mathlib.Core.Path.{_≡_, sym, _∙_, subst, subst⁻¹}
 use mathlib.Core.Logic.{_⊎_, inl, inr, ⊎-elim}
 use mathlib.Core.List.{List}
 use Prim.Native.Nat.{ℕ, zero, suc, _+_, _-_, _*_, _/_, _%_, _^_, _<_, _≤_}
-use native.Mathlib.Nat.{not-suc-le-zero, le-of-eq}
+use native.Mathlib.Nat.{not-suc-le-zero, le-refl}
 use native.Mathlib.Numerals.{add-one, sub-one}
 use native.Mathlib.Decide.{decLt}
 use native.Mathlib.Omega.{arith}
@@ -15,7 +15,7 @@ use Rattle.cells.specs.Growing.{around, grownRow, newRow, grown, Near, t
 use Rattle.cells.proofs.Digits.{or-l, or-r, or-one, and-both, and-l, and-r, digit-half, digit-double, digit-double-zero, digit-mod}
 use Rattle.cells.proofs.Fill.{fill-below, fill-above}
 
-pub new-row : (s a : List ℕ) (i : ℕ) → 1 ≤ i → newRow s a i ≡ grownRow (getD s i 0) (getD a (i - 1) 0) (getD a i 0) (getD a (i + 1) 0)
+pub new-row : (s a : List ℕ) (i : ℕ) → 1 ≤ i → newRow s a i ≡ grownRow (getD s i 0) (newRow s a (i - 1)) (getD a i 0) (getD a (i + 1) 0)
 new-row s a zero h = absurd (not-suc-le-zero h)
 new-row s a (suc k) h = rw (add-one, sub-one)
 
@@ -99,76 +99,88 @@ row-out : (s u h d c : ℕ) → digit (grownRow s u h d) c ≡ 1 → (digit h c 
 unfolding grownRow
 row-out s u h d c e = ⊎-elim (λ p. inl p) (λ p. inr (and-l s (around u h d) c p, and-r s (around u h d) c p)) (or-one h (bitAnd s (around u h d)) c e)
 
--- ---- the neighbours of a cell, among the cells of a
+-- ---- the rows one after another: each touches the new row above it
 
-pub record Beside (a : List ℕ) (c r : ℕ) : Type 0 where
-  pub column : ℕ
-  pub row : ℕ
-  pub there : In a column row
-  pub near : Near column row c r
+module _ (s a : List ℕ) where
+  new-keeps : (c k : ℕ) → In a c k → digit (newRow s a k) c ≡ 1
+  new-keeps c zero e = e
+  new-keeps c (suc k) e = row-keeps (getD s (suc k) 0) (newRow s a k) (getD a (suc k) 0) (getD a (suc (suc k)) 0) c e
 
-touch-near : (a : List ℕ) (k c : ℕ) → Touch (getD a k 0) (getD a (suc k) 0) (getD a (suc (suc k)) 0) c → Beside a c (suc k)
-touch-near a k (suc c) (from-left e) = record { column = c; row = suc k; there = e; near = to-right }
-touch-near a k c (from-right e) = record { column = suc c; row = suc k; there = e; near = to-left }
-touch-near a k c (from-up e) = record { column = c; row = k; there = e; near = to-down }
-touch-near a k c (from-up-right e) = record { column = suc c; row = k; there = e; near = to-down-left }
-touch-near a k c (from-down e) = record { column = c; row = suc (suc k); there = e; near = to-up }
-touch-near a k (suc c) (from-down-left e) = record { column = c; row = suc (suc k); there = e; near = to-up-right }
+  new-le : (k : ℕ) → getD a k 0 ≤ newRow s a k
+  new-le zero = le-refl (getD a 0 0)
+  new-le (suc k) = row-le (getD s (suc k) 0) (newRow s a k) (getD a (suc k) 0) (getD a (suc (suc k)) 0)
 
-near-touch : (a : List ℕ) (k : ℕ) {c r c′ : ℕ} → In a c r → Near c r c′ (suc k) → Touch (getD a k 0) (getD a (suc k) 0) (getD a (suc (suc k)) 0) c′
-near-touch a k e to-left = from-right e
-near-touch a k e to-right = from-left e
-near-touch a k e to-up = from-down e
-near-touch a k e to-down = from-up e
-near-touch a k e to-up-right = from-down-left e
-near-touch a k e to-down-left = from-up-right e
+  -- the places that touch a row are those beside a place that is there
+  abbrev TouchNew : ℕ → ℕ → Type 0
+  TouchNew k c = Touch (newRow s a k) (getD a (suc k) 0) (getD a (suc (suc k)) 0) c
 
--- ---- the whole: `grown s a`, of 21 rows
+  near-touch : (k : ℕ) {c r c′ : ℕ} → In a c r → Near c r c′ (suc k) → TouchNew k c′
+  near-touch k e to-left = from-right e
+  near-touch k e to-right = from-left e
+  near-touch k e to-up = from-down e
+  near-touch k {c} e to-down = from-up (new-keeps c k e)
+  near-touch k e to-up-right = from-down-left e
+  near-touch k {c} e to-down-left = from-up-right (new-keeps c k e)
 
-module _ (s a : List ℕ) (long : length a ≡ 21) where
-  grown-row : (k : ℕ) → suc k < 20 → getD (grown s a) (suc k) 0 ≡ grownRow (getD s (suc k) 0) (getD a k 0) (getD a (suc k) 0) (getD a (suc (suc k)) 0)
-  grown-row k h = fill-below (newRow s a) 20 a (suc k) h (omega arith)
+  touch-linked : (k c : ℕ) → ((d : ℕ) → digit (newRow s a k) d ≡ 1 → Linked s a d k) → In s c (suc k) → TouchNew k c → Linked s a c (suc k)
+  touch-linked k (suc c) above i (from-left e) = next (own e) to-right i
+  touch-linked k c above i (from-right e) = next (own e) to-left i
+  touch-linked k c above i (from-up e) = next (above c e) to-down i
+  touch-linked k c above i (from-up-right e) = next (above (suc c) e) to-down-left i
+  touch-linked k c above i (from-down e) = next (own e) to-up i
+  touch-linked k (suc c) above i (from-down-left e) = next (own e) to-up-right i
+
+  -- what is in a new row is linked to what was there
+  new-linked : (rows : ℕ) → Framed rows s → (k c : ℕ) → digit (newRow s a k) c ≡ 1 → Linked s a c k
+  new-linked rows fr zero c e = own e
+  new-linked rows fr (suc k) c e =
+      ⊎-elim (λ p. own p)
+      (λ p.
+      touch-linked k c (new-linked rows fr k) (p .0)
+      (touch-out (newRow s a k) (getD a (suc k) 0) (getD a (suc (suc k)) 0) c (fr .inside c (suc k) (p .0) .2) (p .1)))
+      (row-out (getD s (suc k) 0) (newRow s a k) (getD a (suc k) 0) (getD a (suc (suc k)) 0) c e)
+
+-- ---- the whole: `grown rows s a`, of 21 rows
+
+module _ (rows : ℕ) (few : rows ≤ 19) (s a : List ℕ) (long : length a ≡ 21) where
+  row-new : (k : ℕ) → k ≤ rows → getD (grown rows s a) k 0 ≡ newRow s a k
+  row-new k h = fill-below (newRow s a) (suc rows) a k (omega arith) (omega arith)
+
+  -- a row is a new one, or beyond the first rows as it was
+  by-row : (k : ℕ) (P : ℕ → Type 0) → (k ≤ rows → P (newRow s a k)) → (rows < k → P (getD a k 0)) → P (getD (grown rows s a) k 0)
+  by-row k P new old = go (decLt rows k)
+    where
+      go : Dec (rows < k) → P (getD (grown rows s a) k 0)
+      go (yes h) = subst⁻¹ P (fill-above (newRow s a) (suc rows) a k (omega arith)) (old h)
+      go (no h) = subst⁻¹ P (row-new k (omega arith)) (new (omega arith))
 
   -- what is there stays
-  pub grown-keeps : (c r : ℕ) → In a c r → In (grown s a) c r
-  grown-keeps c zero e = rw (fill-below (newRow s a) 20 a 0 (omega arith) (omega arith)) e
-  grown-keeps c (suc k) e = go (decLt (suc k) 20)
-    where
-      go : Dec (suc k < 20) → In (grown s a) c (suc k)
-      go (yes h) = rw (grown-row k h) (row-keeps (getD s (suc k) 0) (getD a k 0) (getD a (suc k) 0) (getD a (suc (suc k)) 0) c e)
-      go (no h) = rw (fill-above (newRow s a) 20 a (suc k) (omega arith)) e
+  pub grown-keeps : (c r : ℕ) → In a c r → In (grown rows s a) c r
+  grown-keeps c r e = by-row r (λ (n : ℕ). digit n c ≡ 1) (λ h. new-keeps s a c r e) (λ h. e)
 
   -- as numbers, the rows do not fall
-  pub grown-le : (r : ℕ) → getD a r 0 ≤ getD (grown s a) r 0
-  grown-le zero = le-of-eq (sym (fill-below (newRow s a) 20 a 0 (omega arith) (omega arith)))
-  grown-le (suc k) = go (decLt (suc k) 20)
-    where
-      go : Dec (suc k < 20) → getD a (suc k) 0 ≤ getD (grown s a) (suc k) 0
-      go (yes h) = rw (grown-row k h) (row-le (getD s (suc k) 0) (getD a k 0) (getD a (suc k) 0) (getD a (suc (suc k)) 0))
-      go (no h) = le-of-eq (sym (fill-above (newRow s a) 20 a (suc k) (omega arith)))
+  pub grown-le : (r : ℕ) → getD a r 0 ≤ getD (grown rows s a) r 0
+  grown-le r = by-row r (λ (n : ℕ). getD a r 0 ≤ n) (λ h. new-le s a r) (λ h. le-refl (getD a r 0))
 
-  -- what is new is in s, beside a cell that was there
-  pub grown-new : Framed s → (c r : ℕ) → In (grown s a) c r → In a c r ⊎ (In s c r × Beside a c r)
-  grown-new fr c zero e = inl (rw (fill-below (newRow s a) 20 a 0 (omega arith) (omega arith)) at e)
-  grown-new fr c (suc k) e = go (decLt (suc k) 20)
-    where
-      go : Dec (suc k < 20) → In a c (suc k) ⊎ (In s c (suc k) × Beside a c (suc k))
-      go (yes h) =
-          ⊎-elim (λ p. inl p)
-          (λ p. inr (p .0, touch-near a k c (touch-out (getD a k 0) (getD a (suc k) 0) (getD a (suc (suc k)) 0) c (fr .inside c (suc k) (p .0) .2) (p .1))))
-          (row-out (getD s (suc k) 0) (getD a k 0) (getD a (suc k) 0) (getD a (suc (suc k)) 0) c (rw (grown-row k h) at e))
-      go (no h) = inl (rw (fill-above (newRow s a) 20 a (suc k) (omega arith)) at e)
+  -- what is there now is linked to what was there
+  pub grown-linked : Framed rows s → (c r : ℕ) → In (grown rows s a) c r → Linked s a c r
+  grown-linked fr c r = by-row r (λ (n : ℕ). digit n c ≡ 1 → Linked s a c r) (λ h e. new-linked s a rows fr r c e) (λ h e. own e)
 
   -- a cell of s beside one that is there is taken in
-  pub grown-takes : Framed s → (c r c′ r′ : ℕ) → In a c r → Near c r c′ r′ → In s c′ r′ → In (grown s a) c′ r′
+  pub grown-takes : Framed rows s → (c r c′ r′ : ℕ) → In a c r → Near c r c′ r′ → In s c′ r′ → In (grown rows s a) c′ r′
   grown-takes fr c r c′ zero e n i = absurd (not-suc-le-zero (fr .inside c′ 0 i .0))
   grown-takes fr c r c′ (suc k) e n i =
       let f = fr .inside c′ (suc k) i in
-      rw (grown-row k (omega (arith, f .1)))
-      (row-takes (getD s (suc k) 0) (getD a k 0) (getD a (suc k) 0) (getD a (suc (suc k)) 0) c′ (f .2) i (near-touch a k e n))
+      rw (row-new (suc k) (f .1))
+      (row-takes (getD s (suc k) 0) (newRow s a k) (getD a (suc k) 0) (getD a (suc (suc k)) 0) c′ (f .2) i (near-touch s a k e n))
 
 -- a set that grows no more has all that its start is linked to
-pub closed : (s a r : List ℕ) → length r ≡ 21 → Framed s → r ≡ grown s r → ((c k : ℕ) → In a c k → In r c k) → (c k : ℕ) → Linked s a c k → In r c k
-closed s a r long fr e h c k (own i) = h c k i
-closed s a r long fr e h c k (next {c = c₀} {r = k₀} l n i) =
-    subst (λ (x : List ℕ). In x c k) (sym e) (grown-takes s r long fr c₀ k₀ c k (closed s a r long fr e h c₀ k₀ l) n i)
+pub closed : (rows : ℕ) → rows ≤ 19 → (s a r : List ℕ) → length r ≡ 21 → Framed rows s → r ≡ grown rows s r → ((c k : ℕ) → In a c k → In r c k) → (c k : ℕ) → Linked s a c k → In r c k
+closed rows few s a r long fr e h c k (own i) = h c k i
+closed rows few s a r long fr e h c k (next {c = c₀} {r = k₀} l n i) =
+    subst (λ (x : List ℕ). In x c k) (sym e) (grown-takes rows few s r long fr c₀ k₀ c k (closed rows few s a r long fr e h c₀ k₀ l) n i)
+
+-- what is linked to places that are linked to a start is linked to the start
+pub linked-through : {s a b : List ℕ} {c k : ℕ} → ((d m : ℕ) → In b d m → Linked s a d m) → Linked s b c k → Linked s a c k
+linked-through {c = c} {k = k} f (own i) = f c k i
+linked-through f (next l n i) = next (linked-through f l) n i

@@ -24,13 +24,13 @@ use Rattle.cells.proofs.Smallest.{smallest-held}
 use Rattle.cells.proofs.Words.{both-in, both-out}
 
 -- the cells of a board that fits stand inside the frame
-pub clipped-framed : (b : Board) (s t : List ℕ) → Fits b → Clipped b s t → Framed t
+pub clipped-framed : (b : Board) (s t : List ℕ) → Fits b → Clipped b s t → Framed (b .rows) t
 clipped-framed b s t fits cl =
     record {
       inside =
           λ c r e.
           let o = cl .only c r e .1 in
-          (o .top, omega (arith, o .bottom, fits .few-rows), omega (arith, o .right, fits .few-columns));
+          (o .top, o .bottom, omega (arith, o .right, fits .few-columns));
     }
 
 chain-from : {b : Board} {s : ℕ → Bool} {z x : ℕ} → Chain b s z x → T (s x)

@@ -14,13 +14,14 @@ unfoldable pub grownRow : ℕ → ℕ → ℕ → ℕ → ℕ
 unfolding around
 grownRow s u h d = bitOr h (bitAnd s (around u h d))
 
+-- row by row downwards: each row touches the new row above it
 abbrev pub newRow : List ℕ → List ℕ → ℕ → ℕ
 newRow s a zero = getD a 0 0
-newRow s a (suc k) = grownRow (getD s (suc k) 0) (getD a k 0) (getD a (suc k) 0) (getD a (suc (suc k)) 0)
+newRow s a (suc k) = grownRow (getD s (suc k) 0) (newRow s a k) (getD a (suc k) 0) (getD a (suc (suc k)) 0)
 
--- the rows a with their neighbours among the cells s
-abbrev pub grown : List ℕ → List ℕ → List ℕ
-grown s a = fill (newRow s a) 20 a
+-- the first rows of a with their neighbours among the cells s
+abbrev pub grown : ℕ → List ℕ → List ℕ → List ℕ
+grown rows s a = fill (newRow s a) (suc rows) a
 
 -- the six neighbours of a place (column, row), the second place
 pub data Near : ℕ → ℕ → ℕ → ℕ → Type 0 where
@@ -36,9 +37,9 @@ pub data Linked (s a : List ℕ) : ℕ → ℕ → Type 0 where
   own : {c r : ℕ} → In a c r → Linked s a c r
   next : {c r c′ r′ : ℕ} → Linked s a c r → Near c r c′ r′ → In s c′ r′ → Linked s a c′ r′
 
--- no place of s is in row 0, row 20 or beyond, nor above digit 31
-pub record Framed (s : List ℕ) : Type 0 where
-  pub inside : (c r : ℕ) → In s c r → (1 ≤ r) × (r ≤ 19) × (c < 32)
+-- no place of s is in row 0 or beyond the first rows, nor above digit 31
+pub record Framed (rows : ℕ) (s : List ℕ) : Type 0 where
+  pub inside : (c r : ℕ) → In s c r → (1 ≤ r) × (r ≤ rows) × (c < 32)
 
 -- r is all that a grows to inside s
 pub record Closure (s a r : List ℕ) : Type 0 where

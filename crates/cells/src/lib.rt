@@ -93,13 +93,14 @@ fn grow_row(cells: u32, up: u32, here: u32, down: u32) -> u32
     here | (cells & (((here << 1) | (here >> 1)) | ((up | (up >> 1)) | (down | (down << 1)))))
 }
 
-// A set with its neighbours among the cells.
-fn grow(cells: Cells, a: Cells) -> Cells
-    ensures { λ r. ⌜ r .rows ≡ grown (cells .rows) (a .rows) ⌝ }
+// A set with its neighbours among the cells, row by row downwards, so that what a row takes in is taken on by the next.
+fn grow(cells: Cells, a: Cells, rows: usize) -> Cells
+    requires { ⌜ rows ≤ 19 ⌝ }
+    ensures { λ r. ⌜ r .rows ≡ grown rows (cells .rows) (a .rows) ⌝ }
 {
     let mut out = a;
-    for i in 1..20 {
-        out.rows[i] = grow_row(cells.rows[i], a.rows[i - 1], a.rows[i], a.rows[i + 1]);
+    for i in 1..rows + 1 {
+        out.rows[i] = grow_row(cells.rows[i], out.rows[i - 1], a.rows[i], a.rows[i + 1]);
     }
     out
 }
@@ -116,14 +117,14 @@ fn same(a: Cells, b: Cells) -> bool
     true
 }
 
-// All that a set grows to inside the cells: it grows until it stops growing.
-fn closure(cells: Cells, a: Cells) -> Cells
-    requires { ⌜ Framed (cells .rows) ⌝ }
+// All that a set grows to inside the cells, which stand in the first rows: it grows until it stops growing.
+fn closure(cells: Cells, a: Cells, rows: usize) -> Cells
+    requires { ⌜ (rows ≤ 19) × Framed rows (cells .rows) ⌝ }
     ensures { λ r. ⌜ Closure (cells .rows) (a .rows) (r .rows) ⌝ }
 {
     let mut now = a;
     loop {
-        let next = grow(cells, now);
+        let next = grow(cells, now, rows);
         if same(now, next) {
             return now;
         }
@@ -222,7 +223,7 @@ impl Cells {
     {
         let cells = clipped(self, board);
         let start = merged(cells, first_side(board, player), false);
-        let all = closure(cells, start);
+        let all = closure(cells, start, board.rows);
         merged(all, last_side(board, player), false).least(board) != 0
     }
 

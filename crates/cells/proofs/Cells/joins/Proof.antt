@@ -22,7 +22,7 @@ merged-requires c κs = search needs
 closure-requires : tie.Need-closure-requires
 closure-requires c κs =
     let p = c .before .before .before in
-    clipped-framed (p .args .board) (p .args .self .rows) _ (p .pre) (c .before .before .clipped .ensures)
+    (p .pre .few-rows, clipped-framed (p .args .board) (p .args .self .rows) _ (p .pre) (c .before .before .clipped .ensures))
 
 last-side-requires : tie.Need-last-side-requires
 last-side-requires c κs = search needs
