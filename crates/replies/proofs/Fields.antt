@@ -13,9 +13,8 @@ use Rattle.report.specs.Decimal.{decimal}
 use Rattle.report.specs.Line.{fields}
 use Rattle.report.proofs.Line.{fields-append}
 use Rattle.report.proofs.Decimal.{decimal-low, decimal-high}
-use Rattle.replies.specs.Request.{Plain, NumberReply, nameOf, FieldEnd, CountOf, Counted, CountReply, AskReply, Asked, RequestReply, LineOf, LineReply}
+use Rattle.replies.specs.Request.{Plain, NumberReply, nameOf, FieldEnd, CountOf, Counted, CountReply, AskReply, RequestReply, LineReply}
 use Rattle.replies.specs.declared.Ask.{Ask}
-use Rattle.replies.specs.declared.Request.{Request}
 use Rattle.replies.specs.declared.RequestRead.{RequestRead}
 use Rattle.replies.specs.declared.RequestRead.the-variants as RequestRead
 use Rattle.replies.specs.declared.AskRead.{AskRead}

@@ -2,3 +2,4 @@
 pub mod Request
 pub mod Window
 pub mod Answered
+pub mod Lent

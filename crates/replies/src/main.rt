@@ -6,6 +6,7 @@ ghost use Prim.Native.Nat.{_+_, _*_, _≤_};
 ghost use lib.ListN.{length, getD};
 ghost use Rattle.replies.specs.Window.{Within, TakenWithin, LineWithin, PlaceFor, TextOf, TextWithin};
 ghost use Rattle.replies.specs.Answered.{AnsweredWithin};
+ghost use Rattle.replies.specs.Lent.{FilledFrom, ZeroUpTo, WorkspaceLaid, RoomLaid};
 ghost use mathlib.Core.List.{_++_};
 ghost use Rattle.report.specs.Line.{lineOf};
 ghost use Rattle.report.specs.Writing.{Printed};
@@ -373,17 +374,21 @@ fn take_text(buffer: &mut [u8], window: Window, bytes: usize) -> Text
     }
 }
 
-// Fills the first n numbers of the memory, which are lent.
-fn fill(memory: &mut [u32], n: usize)
-    requires { ⌜ n ≤ length (now memory) ⌝ }
+// Fills the memory that is lent.
+fn fill(memory: &mut [u32])
+    ensures { λ _. ⌜ FilledFrom 0 (now (memory .exit)) ⌝ }
 {
-    for i in 0..n {
+    let mut i = 0;
+    while i < memory.len() {
         memory[i] = FILLING;
+        i += 1;
     }
 }
 
 // Whether the memory from a place on is as it was lent: all its bits are 1.
-fn kept(memory: &[u32], from: usize) -> bool {
+fn kept(memory: &[u32], from: usize) -> bool
+    ensures { λ r. ⌜ (FilledFrom from (now (memory .entry)) → r ≡ true) ⌝ }
+{
     let mut all = FILLING;
     let mut i = from;
     while i < memory.len() {
@@ -394,7 +399,9 @@ fn kept(memory: &[u32], from: usize) -> bool {
 }
 
 // Whether the first n numbers of the memory are 0: none of their bits is 1.
-fn cleared(memory: &[u32], n: usize) -> bool {
+fn cleared(memory: &[u32], n: usize) -> bool
+    ensures { λ r. ⌜ (ZeroUpTo n (now (memory .entry)) → r ≡ true) ⌝ }
+{
     if memory.len() < n {
         return false;
     }
@@ -405,9 +412,11 @@ fn cleared(memory: &[u32], n: usize) -> bool {
     any == 0
 }
 
-// Whether the workspace is what document 01 lays down after a reply with the number.
-fn workspace_right(workspace: &[u32], number: u32) -> bool {
-    if number == 1 {
+// Whether the workspace is what document 01 lays down: fewer than 8,192 numbers are refused with 1.
+fn workspace_right(workspace: &[u32]) -> bool
+    ensures { λ r. ⌜ (WorkspaceLaid (now (workspace .entry)) → r ≡ true) ⌝ }
+{
+    if workspace.len() < 8192 {
         return kept(workspace, 0);
     }
     if !cleared(workspace, 8192) {
@@ -418,7 +427,7 @@ fn workspace_right(workspace: &[u32], number: u32) -> bool {
 
 // Whether the room is what document 01 lays down after a reply with the number and so many answers or cells.
 fn room_right(room: &[u32], number: u32, written: usize) -> bool
-    ensures { λ r. ⌜ (r ≡ true → written ≤ length (now (room .entry))) ⌝ }
+    ensures { λ r. ⌜ (r ≡ true → written ≤ length (now (room .entry))) × (RoomLaid number written (now (room .entry)) → r ≡ true) ⌝ }
 {
     if room.len() < written {
         return false;
@@ -426,7 +435,7 @@ fn room_right(room: &[u32], number: u32, written: usize) -> bool
     if number == 0 {
         return kept(room, written);
     }
-    kept(room, 0)
+    written == 0 && kept(room, 0)
 }
 
 // A count as a number of 32 bits; no count of a reply is larger.
@@ -464,8 +473,10 @@ fn print_reply(first: u32, others: &[u32], listed: &[u32])
     print(&room, n);
 }
 
-// Says that the memory that was lent is not what document 01 lays down.
-fn say_memory() {
+// Says that the memory that was lent is not what document 01 lays down. It is proved that it never comes to that.
+fn say_memory()
+    requires { ⌜ ⊥ ⌝ }
+{
     io::write_all(STDOUT_FILENO, b"memory\n");
 }
 
@@ -474,11 +485,12 @@ fn say_request() {
     io::write_all(STDOUT_FILENO, b"request\n");
 }
 
-// Judges the sheet, and prints the reply.
-fn answer_judge(text: &[u8], workspace: &mut [u32]) {
+// Judges the sheet with a workspace that was filled, and prints the reply.
+fn print_judge(text: &[u8], workspace: &mut [u32])
+    requires { ⌜ FilledFrom 0 (now workspace) ⌝ }
+{
     let verdict = judge(text, workspace);
-    let told = tell(verdict);
-    if !workspace_right(workspace, told.number) {
+    if !workspace_right(workspace) {
         say_memory();
         return;
     }
@@ -487,15 +499,15 @@ fn answer_judge(text: &[u8], workspace: &mut [u32]) {
     print(&room, n);
 }
 
-// Plays the cells on the sheet, and prints the reply.
-fn answer_play(text: &[u8], moves: &[u32], room: &mut [u32], workspace: &mut [u32])
-    requires { ⌜ length (now room) ≤ 1000 ⌝ }
+// Plays the cells on the sheet with memory that was filled, and prints the reply.
+fn print_play(text: &[u8], moves: &[u32], room: &mut [u32], workspace: &mut [u32])
+    requires { ⌜ (length (now room) ≤ 1000) × FilledFrom 0 (now room) × FilledFrom 0 (now workspace) ⌝ }
 {
     let played = play(text, moves, room, workspace);
     let verdict = played.verdict;
     let told = tell(verdict);
     let answers = played.answers;
-    if !workspace_right(workspace, told.number) {
+    if !workspace_right(workspace) {
         say_memory();
         return;
     }
@@ -516,15 +528,15 @@ fn answer_play(text: &[u8], moves: &[u32], room: &mut [u32], workspace: &mut [u3
     print_reply(told.number, &others, &room[..answers]);
 }
 
-// Names the outcome of the sheet with a number, and prints the reply.
-fn answer_outcome(text: &[u8], number: u32, room: &mut [u32], workspace: &mut [u32])
-    requires { ⌜ length (now room) ≤ 1000 ⌝ }
+// Names the outcome of the sheet with a number with memory that was filled, and prints the reply.
+fn print_outcome(text: &[u8], number: u32, room: &mut [u32], workspace: &mut [u32])
+    requires { ⌜ (length (now room) ≤ 1000) × FilledFrom 0 (now room) × FilledFrom 0 (now workspace) ⌝ }
 {
     let named = outcome(text, number, room, workspace);
     let verdict = named.verdict;
     let told = tell(verdict);
     let cells = named.cells;
-    if !workspace_right(workspace, told.number) {
+    if !workspace_right(workspace) {
         say_memory();
         return;
     }
@@ -534,6 +546,30 @@ fn answer_outcome(text: &[u8], number: u32, room: &mut [u32], workspace: &mut [u
     }
     let others = [told.line, told.cell, told.index, narrow(cells)];
     print_reply(told.number, &others, &room[..cells]);
+}
+
+// Fills the lent memory, and judges the sheet.
+fn answer_judge(text: &[u8], workspace: &mut [u32]) {
+    fill(workspace);
+    print_judge(text, workspace);
+}
+
+// Fills the lent memory, and plays the cells.
+fn answer_play(text: &[u8], moves: &[u32], room: &mut [u32], workspace: &mut [u32])
+    requires { ⌜ length (now room) ≤ 1000 ⌝ }
+{
+    fill(workspace);
+    fill(room);
+    print_play(text, moves, room, workspace);
+}
+
+// Fills the lent memory, and names the outcome.
+fn answer_outcome(text: &[u8], number: u32, room: &mut [u32], workspace: &mut [u32])
+    requires { ⌜ length (now room) ≤ 1000 ⌝ }
+{
+    fill(workspace);
+    fill(room);
+    print_outcome(text, number, room, workspace);
 }
 
 // Answers a request whose sheet was taken, with as much memory lent as it says.
@@ -562,15 +598,6 @@ fn answer_lent(
     }
 }
 
-// Fills the memory that a request is lent, and answers it.
-fn answer(text: &[u8], request: Request, numbers: &[u32], workspace: &mut [u32], room: &mut [u32])
-    requires { ⌜ (RequestOf (now numbers) request) × (length (now numbers) ≡ 403) × (length (now workspace) ≡ 9000) × (length (now room) ≡ 1000) ⌝ }
-{
-    fill(workspace, request.work);
-    fill(room, request.room);
-    answer_lent(text, request, numbers, workspace, room);
-}
-
 // Whether requests go on, and with which window.
 enum Answered {
     On { window: Window },
@@ -593,7 +620,7 @@ fn answer_text(
 {
     let start = window.start;
     let next = start + request.bytes;
-    answer(&buffer[start..next], request, numbers, workspace, room);
+    answer_lent(&buffer[start..next], request, numbers, workspace, room);
     Answered::On {
         window: Window {
             start: next,

@@ -1,6 +1,5 @@
 -- `replies::print` meets its contract: the first n bytes are n.
 use mathlib.Core.Path.{sym}
-use native.Mathlib.Omega.{arith}
 use borrow.Author.Needs.{needs}
 use lib.Seq.{length-take-le}
 use Rattle.replies.proofs.print.Statement.{statement}

@@ -1,5 +1,4 @@
 -- `request_of` meets its contract: what the tests left is within the limits.
-use native.Mathlib.Omega.{arith}
 use mathlib.Core.Path.{refl}
 use borrow.Author.Needs.{needs}
 use borrow.Author.Tests.{not-false}

@@ -1,6 +1,5 @@
 -- `replies::take_line` meets its contract: after n turns n bytes were taken and put into the line.
 use Prim.Native.Nat.{_-_}
-use mathlib.Core.Path.{refl}
 use native.Mathlib.Omega.{arith}
 use lib.ListN.{length}
 use borrow.Author.Needs.{needs}

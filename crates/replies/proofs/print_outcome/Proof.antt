@@ -1,12 +1,14 @@
--- `replies::answer_outcome` meets its contract: what is listed fits the room.
-use mathlib.Core.Path.{sym}
+-- `replies::print_outcome` meets its contract: what is listed fits the room.
+use mathlib.Core.Path.{sym, ap}
 use native.Mathlib.Omega.{arith}
 use lib.Seq.{length-take-le}
-use borrow.Author.Tests.{not-false}
+use borrow.Author.Tests.{not-true, not-false}
+use Rattle.rules.specs.declared.Told.{Told}
+use Rattle.replies.proofs.Lent.{workspace-never, outcome-never}
 use Rattle.replies.proofs.Replying.{take-short}
 use borrow.Author.Needs.{needs}
-use Rattle.replies.proofs.answer_outcome.Statement.{statement}
-use Rattle.replies.proofs.answer_outcome.Tie as tie
+use Rattle.replies.proofs.print_outcome.Statement.{statement}
+use Rattle.replies.proofs.print_outcome.Tie as tie
 
 outcome-requires : tie.Need-outcome-requires
 outcome-requires c κs = search needs
@@ -18,7 +20,7 @@ workspace-right-requires : tie.Need-workspace-right-requires
 workspace-right-requires c κs = search needs
 
 say-memory-requires : tie.Need-say-memory-requires
-say-memory-requires c κs = search needs
+say-memory-requires c κs = workspace-never (c .before .before .before .before .before .before .before .before .before .before .before .before .before .before .pre .2) (c .before .before .before .before .before .before .before .before .outcome .ensures .memory) (c .before .workspace-right .ensures) (not-true _ (c .if1 .taken))
 
 same-length : tie.Need-same-length
 same-length c = search needs
@@ -33,7 +35,7 @@ room-right-requires : tie.Need-room-right-requires
 room-right-requires c κs = search needs
 
 say-memory-requires-2 : tie.Need-say-memory-requires-2
-say-memory-requires-2 c κs = search needs
+say-memory-requires-2 c κs = outcome-never _ (c .before .before .before .before .before .before .before .before .before .before .before .before .before .before .before .before .before .pre .1) (c .before .before .before .before .before .before .before .before .before .before .before .outcome .ensures) (ap (λ (z : Told). z .number) (c .before .before .before .before .before .before .tell .ensures)) (c .before .room-right .ensures .1) (not-true _ (c .if2 .taken))
 
 same-length-3 : tie.Need-same-length-3
 same-length-3 c = search needs
@@ -51,13 +53,13 @@ slice-aggregate-print-reply : tie.Need-slice-aggregate-print-reply
 slice-aggregate-print-reply c = search needs
 
 slice-reshare-prefix-print-reply : tie.Need-slice-reshare-prefix-print-reply
-slice-reshare-prefix-print-reply c = c .before .before .before .room-right .ensures (not-false _ (c .before .before .if2 .left))
+slice-reshare-prefix-print-reply c = c .before .before .before .room-right .ensures .0 (not-false _ (c .before .before .if2 .left))
 
 slice-aggregate-print-reply-2 : tie.Need-slice-aggregate-print-reply-2
-slice-aggregate-print-reply-2 c = sym (length-take-le _ _ (c .before .before .before .before .room-right .ensures (not-false _ (c .before .before .before .if2 .left))))
+slice-aggregate-print-reply-2 c = sym (length-take-le _ _ (c .before .before .before .before .room-right .ensures .0 (not-false _ (c .before .before .before .if2 .left))))
 
 print-reply-requires : tie.Need-print-reply-requires
-print-reply-requires c κs = (search needs, take-short (c .before .before .before .before .before .before .before .before .before .before .before .before .before .before .outcome .result .cells) 1000 _ (omega (arith, c .before .before .before .before .room-right .ensures (not-false _ (c .before .before .before .if2 .left)))))
+print-reply-requires c κs = (search needs, take-short (c .before .before .before .before .before .before .before .before .before .before .before .before .before .before .outcome .result .cells) 1000 _ (omega (arith, c .before .before .before .before .room-right .ensures .0 (not-false _ (c .before .before .before .if2 .left)))))
 
 same-length-5 : tie.Need-same-length-5
 same-length-5 c = search needs
@@ -68,8 +70,8 @@ same-length-6 c = search needs
 returns-3 : tie.Need-returns-3
 returns-3 c = search needs
 
-pub answer-outcome-spec : {M : Type 1} → statement M
-answer-outcome-spec =
+pub print-outcome-spec : {M : Type 1} → statement M
+print-outcome-spec =
     tie.close
     (tie.spec
     outcome-requires
