@@ -1,17 +1,16 @@
 -- The loop over the moves: the game so far, and what is left of the rounds.
 use mathlib.Core.Path.{_≡_, refl, sym, ap, ap₂, _∙_, subst}
 use mathlib.Core.Bool.{Bool, false, not, _||_, or-comm, or-false}
-use Prim.Native.Nat.{ℕ, suc, _+_, _*_, _<_, _≤_}
-use native.Mathlib.Nat.{mul-le-mul}
+use Prim.Native.Nat.{ℕ, suc, _+_, _<_, _≤_}
 use native.Mathlib.Numerals.{add-one}
 use native.Mathlib.Omega.{arith}
 use mathlib.Core.List.{List, [], _∷_, _++_, append-assoc, append-nil}
-use lib.Dec.{T, eqb, leb, leb→le}
+use lib.Dec.{T, eqb}
 use lib.ListN.{length, getD, set, drop, length-append, length-set, drop-of-length-le}
 use lib.Seq.{drop-cons, set-append-seam}
 use Rattle.rules.specs.Sizes.{mostNodes}
 use Rattle.rules.specs.Words.{among}
-use Rattle.rules.specs.Board.{isCell, cells}
+use Rattle.rules.specs.Board.{isCell}
 use Rattle.rules.specs.Tree.{Waits, Sheet, stone}
 use Rattle.rules.specs.Joining.{joined}
 use Rattle.rules.specs.Plain.{WellRead}
@@ -22,7 +21,7 @@ use Rattle.rules.specs.Promise.{Ruled, no-move, HasAnswer}
 use Rattle.rules.specs.declared.Board.{Board}
 use Rattle.rules.specs.declared.Player.{Player}
 use Rattle.rules.specs.declared.Verdict.{Verdict}
-use Rattle.rules.proofs.Tests.{fst, snd}
+use Rattle.rules.proofs.Tests.{fst}
 use Rattle.rules.proofs.Lists.{among-append}
 use Rattle.rules.proofs.Joining.{joined-same}
 use Rattle.rules.proofs.WellRead.{well-read}
@@ -277,14 +276,6 @@ module _ {t₀ : List ℕ} {b : Board} {p : Player} {s : Sheet} (h : Playable t�
 
 pub wrote-long : {room later : List ℕ} {i c : ℕ} → Wrote room later i c → length later ≡ length room
 wrote-long {room = room} {i = i} {c = c} w = ap length (w .stored) ∙ length-set room i c
-
--- a cell of a board that fits is a 32-bit number above 0
-pub cell-small : (b : Board) (x : ℕ) → Fits b → T (isCell b x) → (1 ≤ x) × (x ≤ 361)
-unfolding isCell cells
-cell-small b x f h =
-    let lo = leb→le 1 x (fst (leb 1 x) (leb x (b .columns * b .rows)) h) in
-    let hi = leb→le x (b .columns * b .rows) (snd (leb 1 x) (leb x (b .columns * b .rows)) h) in
-    (lo, omega (arith, hi, mul-le-mul {n₁ = b .columns} {m₁ = b .rows} {n₂ = 19} {m₂ = 19} (f .few-columns) (f .few-rows)))
 
 -- the loop's invariant; the table was t₀ where the loop began
 pub record Going (b : Board) (p : Player) (moves t₀ room₀ t room ours theirs : List ℕ) (i : ℕ) : Type 0 where

@@ -4,13 +4,11 @@ use mathlib.Core.Logic.{_≢_}
 use Prim.Native.Nat.{ℕ, zero, suc, _+_, _≤_}
 use native.Mathlib.Omega.{arith}
 use mathlib.Core.List.{List, [], _∷_, _++_, map, map-append}
-use lib.Dec.{T, leb, leb→le}
 use Rattle.rules.specs.declared.Board.{Board}
-use Rattle.rules.specs.Board.{isCell, cells}
 use Rattle.rules.specs.Words.{_∈_, at-head, in-tail}
 use Rattle.rules.specs.Tree.{Waits, noWaits, wait, Moves, noMoves, move, Wait, Move, Sheet, everyWait}
 use Rattle.rules.specs.Plain.{linesOfWaits, linesOfMoves, linesOf, upFrom}
-use Rattle.rules.proofs.Tests.{fst}
+use Rattle.cells.proofs.Places.{cell-range}
 use Rattle.nodes.specs.Table.{RowOn}
 use Rattle.nodes.specs.Order.{TreeNode, isMove, inOrderWaits, inOrderMoves, movesAmong, waitsAmong, InOrder, atEnd, atMove, atWait}
 use Rattle.nodes.specs.Sheets.{HoldsSheet}
@@ -63,10 +61,6 @@ laid-from n p (atWait a o) e f g =
     let l = first-line _ n _ _ e in
     laidNode (waitAt a p (g _ at-head)) (l .here) (laid-from (l .many) (omega arith) o (l .others) f (λ w h. g w (in-tail h)))
 
-pub cell-from : (b : Board) (x : ℕ) → T (isCell b x) → 1 ≤ x
-unfolding isCell
-cell-from b x h = leb→le 1 x (fst (leb 1 x) (leb x (cells b)) h)
-
 -- of a held sheet
 abbrev pub treeOf : Sheet → List TreeNode
 treeOf s = isMove (s .root) ∷ inOrderWaits (s .root .waits)
@@ -80,5 +74,5 @@ sheet-laid {t} {b} s h = go (move-in-order (s .root) 0 (sheet-on-board h))
         let l = first-line 0 _ _ _ (ap (λ (ls : List ℕ). s .root .line ∷ ls) (waits-lines (s .root .waits)) ∙ h .well .in-order) in
         laidNode (moveAt a (λ p. absurd (omega arith))) (l .here)
         (laid-from (l .many) (omega arith) o (l .others)
-        (λ m k. cell-from b (m .cell) (sheet-cells h m (subst (λ (l : List Move). m ∈ l) (moves-of-waits (s .root .waits)) k)))
+        (λ m k. cell-range b (m .cell) (sheet-cells h m (subst (λ (l : List Move). m ∈ l) (moves-of-waits (s .root .waits)) k)) .0)
         (λ w k. h .well .some-moves w (subst (λ (l : List Wait). w ∈ l) (waits-of-waits (s .root .waits)) k)))

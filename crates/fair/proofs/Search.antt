@@ -25,7 +25,8 @@ use Rattle.nodes.proofs.Sheets.{sheet-end}
 use Rattle.fair.specs.Faults.{firstBy, faultyBy, lineOf, lineAt, NodeAt, SomeTreeNode, FoundAt}
 use Rattle.fair.specs.declared.Test.{Test}
 use Rattle.fair.specs.declared.Test.the-variants.{Apart, Elusive}
-use Rattle.fair.proofs.Laid.{Laid, laidNode, treeOf, sheet-laid, cell-from}
+use Rattle.cells.proofs.Places.{cell-range}
+use Rattle.fair.proofs.Laid.{Laid, laidNode, treeOf, sheet-laid}
 
 -- the first node of a list is not faulty, or it is
 module _ {N : Type 0} (b : Board) (line : N → ℕ) (faulty : N → ℕ → Bool) (n : N) (ns : List N) where
@@ -109,7 +110,7 @@ module _ {test : Test} {b : Board} {t : List ℕ} {i end : ℕ} (w : Searching t
 
   module _ (p : i < end) (rows : List ℕ) (found : FoundAt test b t i rows) (c : ℕ) (e : c ≡ smallest b (held b rows)) where
     its-cell : (n : TreeNode) → NodeAt b t i n → smallest b (faultyBy test n) ≡ c
-    its-cell n a = sym (e ∙ smallest-same b (held b rows) (faultyBy test n) (λ y k. found n a y (cell-from b y k)))
+    its-cell n a = sym (e ∙ smallest-same b (held b rows) (faultyBy test n) (λ y k. found n a y (cell-range b y k .0)))
 
     -- it is not faulty
     pub search-again : c ≡ 0 → Searching test b t (i + 1) end

@@ -6,13 +6,11 @@ use Prim.Native.Nat.{ℕ, zero, suc, _+_, _<_, _≤_}
 use native.Mathlib.Nat.{eq-zero-or-pos}
 use native.Mathlib.Omega.{arith}
 use mathlib.Core.List.{List}
-use lib.Dec.{T, eqb, leb, le→leb}
+use lib.Dec.{eqb}
 use borrow.Author.Tests.{ne-eqb}
 use Rattle.rules.specs.declared.Board.{Board}
-use Rattle.rules.specs.Board.{isCell, cells}
 use Rattle.rules.specs.Tree.{stone}
 use Rattle.rules.specs.Words.{among}
-use Rattle.rules.proofs.Tests.{both}
 use Rattle.cells.specs.Cells.{held}
 use Rattle.nodes.specs.Nodes.{Nodes, Kind, other, named, inNodes, inNode}
 use Rattle.nodes.specs.Table.{underIn, RowOn, SomeNode}
@@ -75,8 +73,3 @@ stone-cell (suc c) x p = or-false (eqb x (suc c))
 
 pub stone-of : (c x : ℕ) → 1 ≤ x → among (stone c) x ≡ eqb x c
 stone-of c x p = ⊎-elim (λ e. no-stone c x e ∙ sym (ne-eqb x c (λ f. omega arith))) (λ q. stone-cell c x q) (eq-zero-or-pos c)
-
--- a number that is at most the last cell's, and not 0, is a cell
-pub cell-of : (b : Board) (c : ℕ) → c ≤ cells b → 1 ≤ c → T (isCell b c)
-unfolding isCell
-cell-of b c p q = both (leb 1 c) (leb c (cells b)) (le→leb 1 c q) (le→leb c (cells b) p)

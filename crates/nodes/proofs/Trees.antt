@@ -2,19 +2,19 @@
 use mathlib.Core.Path.{_≡_, refl, ap₂}
 use mathlib.Core.Logic.{_⊎_, ⊎-elim}
 use mathlib.Core.Bool.{Bool, _||_}
-use Prim.Native.Nat.{ℕ, _+_, _*_, _≤_}
+use Prim.Native.Nat.{ℕ, _+_, _*_}
 use native.Mathlib.Omega.{arith}
 use mathlib.Core.List.{List}
-use lib.Dec.{T, eqb, leb, leb→le}
+use lib.Dec.{T, eqb}
 use Rattle.rules.specs.declared.Board.{Board}
 use Rattle.rules.specs.Board.{isCell, cells}
 use Rattle.rules.specs.Words.{_∈_, at-head, in-tail}
 use Rattle.rules.specs.Tree.{Waits, noWaits, wait, Moves, noMoves, move, Move, movesOfWaits, movesOfMoves}
 use Rattle.rules.specs.Fair.{inWaits, inMoves}
 use Rattle.rules.specs.Outcomes.{countOfWaits, countOfMoves}
-use Rattle.rules.proofs.Tests.{snd}
 use Rattle.rules.proofs.Lists.{in-first, in-second}
 use Rattle.rules.proofs.Reading.{nodesInWaits, nodesInMoves}
+use Rattle.cells.proofs.Places.{cell-range}
 use Rattle.nodes.specs.Nodes.{nodesOfWaits, nodesOfMoves, aWait, aMove, size, countOf, inNodes}
 use Rattle.nodes.specs.Table.{Property, Each, nothing, first, Row, RowOn, Stand, At}
 
@@ -64,12 +64,8 @@ unfolding nodesOfWaits
 move-first line c ws ms (first p below rest) = (record { here = p; below = below }, rest)
 
 -- nodes that stand in the table, whose moves' cells are cells of the board
-cell-most : (b : Board) (c : ℕ) → T (isCell b c) → c ≤ cells b
-unfolding isCell
-cell-most b c h = leb→le c (cells b) (snd (leb 1 c) (leb c (cells b)) h)
-
 mutual
-  unfolding nodesOfWaits movesOfWaits
+  unfolding nodesOfWaits movesOfWaits cells
 
   pub waits-on-board : {t : List ℕ} {i : ℕ} (b : Board) (ws : Waits) → ((m : Move) → m ∈ movesOfWaits ws → T (isCell b (m .cell)))
       → Stand t aWait i (nodesOfWaits ws) → Each (RowOn b t) aWait i (nodesOfWaits ws)
@@ -85,14 +81,15 @@ mutual
   moves-on-board b noMoves f s = nothing
   moves-on-board b (move line c ws ms) f (first r below rest) =
       first
-      (record { row = r; on = cell-most b c (f (record { line = line; cell = c; waits = ws }) at-head) })
+      (record { row = r; on = cell-range b c (f (record { line = line; cell = c; waits = ws }) at-head) .1 })
       (waits-on-board b ws (λ m h. f m (in-tail (in-first (movesOfMoves ms) h))) below)
       (moves-on-board b ms (λ m h. f m (in-tail (in-second (movesOfWaits ws) h))) rest)
 
 pub root-on-board : {t : List ℕ} {i : ℕ} (b : Board) (c : ℕ) (ws : Waits) → (c ≡ 0) ⊎ T (isCell b c) → ((m : Move) → m ∈ movesOfWaits ws → T (isCell b (m .cell)))
     → At (Row t) aMove i c (nodesOfWaits ws) → At (RowOn b t) aMove i c (nodesOfWaits ws)
+unfolding cells
 root-on-board b c ws z f n =
     record {
-      here = record { row = n .here; on = ⊎-elim (λ e. omega arith) (λ h. cell-most b c h) z };
+      here = record { row = n .here; on = ⊎-elim (λ e. omega arith) (λ h. cell-range b c h .1) z };
       below = waits-on-board b ws f (n .below);
     }

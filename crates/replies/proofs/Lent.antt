@@ -7,8 +7,8 @@ use Prim.Native.Nat.{ℕ, _+_, _-_, _<_, _≤_}
 use native.Mathlib.Nat.{eq-zero-or-pos}
 use native.Mathlib.Omega.{arith}
 use lib.Bits.{bitAnd, bitOr}
-use lib.ListN.{length, getD, set, drop, replicate, length-append, length-drop, length-set, length-replicate, getD-replicate, List·getD-append}
-use lib.Seq.{getD-append-add, getD-drop, getD-set-same, getD-set-other}
+use lib.ListN.{length, getD, drop, replicate, length-append, length-drop, length-replicate, getD-replicate, List·getD-append}
+use lib.Seq.{getD-append-add, getD-drop}
 use borrow.Author.Tests.{lt-ltb, le-ltb}
 use Rattle.rules.specs.Sizes.{leastWorkspace}
 use Rattle.rules.specs.Text.{Bytes}
@@ -19,28 +19,13 @@ use Rattle.rules.specs.Verdict.{told}
 use Rattle.rules.specs.Entries.{Rounds, stopped, played, rounds, refusedPlay, playedOut, playOn, play, named, outcome, workspaceAfter, roomAfter, playShown, outcomeShown, PlayKept, OutcomeKept}
 use Rattle.rules.specs.declared.Played.{Played}
 use Rattle.rules.specs.declared.Named.{Named}
+use Rattle.sheet.specs.Playing.{Copied}
 use Rattle.replies.specs.Lent.{FilledFrom, ZeroUpTo, WorkspaceLaid, RoomLaid}
 
--- the first i numbers are filled
-pub record FilledUpTo (before : List ℕ) (i : ℕ) (l : List ℕ) : Type 0 where
-  pub long : length l ≡ length before
-  pub filled : (j : ℕ) → j < i → getD l j 0 ≡ 4294967295
-
-pub filled-none : {l : List ℕ} → FilledUpTo l 0 l
-filled-none = record { long = refl; filled = λ j h. absurd (omega arith) }
-
-pub filled-more : {before l : List ℕ} {i : ℕ} → FilledUpTo before i l → i < length l → FilledUpTo before (i + 1) (set l i 4294967295)
-filled-more {before} {l} {i} f h =
-    record {
-      long = length-set l i 4294967295 ∙ f .long;
-      filled = λ j below. ⊎-elim
-          (λ z. let same : j ≡ i = omega arith in rw same (getD-set-same l i 4294967295 0 h))
-          (λ z. getD-set-other l i j 4294967295 0 (λ same. omega arith) ∙ f .filled j (omega arith))
-          (eq-zero-or-pos (i - j));
-    }
-
-pub filled-all : {before l : List ℕ} {i : ℕ} → FilledUpTo before i l → length l ≤ i → FilledFrom 0 l
-filled-all f h = record { filled = λ j lo hi. f .filled j (omega arith) }
+-- memory into which nothing but the filling was copied
+pub filled-all : {before l : List ℕ} {i : ℕ} → Copied (replicate (length before) 4294967295) before i l → length before ≤ i → FilledFrom 0 l
+filled-all {before} k h =
+    record { filled = λ j lo hi. k .first j (omega (arith, k .long)) ∙ getD-replicate (length before) j 4294967295 0 (omega (arith, k .long)) }
 
 -- one number more: all bits are still 1, and none is
 pub kept-more : {from i all : ℕ} {l : List ℕ} → from ≤ i → i < length l → (FilledFrom from l → all ≡ 4294967295) → FilledFrom from l → bitAnd all (getD l i 0) ≡ 4294967295

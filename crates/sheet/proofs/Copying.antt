@@ -1,11 +1,11 @@
--- A loop that copies the first numbers of a list into a room, and the room after it.
-use mathlib.Core.Path.{_≡_, refl, sym, ap, _∙_}
+-- A loop that copies the first numbers of a list into a room, and the room after it; a table is cleared as if it were copied from a list of 0.
+use mathlib.Core.Path.{_≡_, refl, sym, ap, subst, subst⁻¹, _∙_}
 use mathlib.Core.Logic.{⊎-elim}
-use mathlib.Core.List.{List, _++_}
+use mathlib.Core.List.{List, [], _++_, append-nil}
 use Prim.Native.Nat.{ℕ, _+_, _-_, _≤_, _<_}
 use native.Mathlib.Nat.{eq-zero-or-pos}
 use native.Mathlib.Omega.{arith}
-use lib.ListN.{length, getD, set, drop, length-append, length-drop, length-set, List·getD-append}
+use lib.ListN.{length, getD, set, drop, replicate, length-append, length-drop, length-set, length-replicate, drop-of-length-le, List·getD-append}
 use lib.Seq.{getD-append-add, getD-drop, getD-set-same, getD-set-other, ext-getD}
 use Rattle.rules.specs.Entries.{roomAfter}
 use Rattle.sheet.specs.Playing.{Copied}
@@ -44,3 +44,15 @@ copied-room xs rest room room′ k h =
     ∙ List·getD-append xs rest 0 j (omega arith)
     ∙ sym (List·getD-append xs (drop (length xs) room) 0 j (omega arith)))
     (eq-zero-or-pos (length xs - j)))
+
+-- where the list is as many times 0 as the room is long, and all of it is copied
+pub copied-zeros : {room room′ : List ℕ} {n : ℕ} → Copied (replicate (length room) 0) room n room′ → n ≡ length room → room′ ≡ replicate (length room) 0
+unfolding roomAfter
+copied-zeros {room} {room′} {n} k e =
+    let zeros : List ℕ = replicate (length room) 0 in
+    let long : length zeros ≡ length room = length-replicate {A = ℕ} (length room) 0 in
+    let all : Copied (zeros ++ []) room (length zeros) room′ =
+    subst⁻¹ (λ (l : List ℕ). Copied l room (length zeros) room′) (append-nil zeros) (subst (λ (m : ℕ). Copied zeros room m room′) (e ∙ sym long) k) in
+    copied-room zeros [] room room′ all (omega (arith, long))
+    ∙ ap (λ (l : List ℕ). zeros ++ l) (drop-of-length-le room {i = length zeros} (omega (arith, long)))
+    ∙ append-nil zeros

@@ -1,4 +1,3 @@
-pub mod Clearing
 pub mod Counting
 pub mod Fairness
 pub mod Reading

@@ -13,10 +13,11 @@ use Rattle.rules.specs.Tree.{stone}
 use Rattle.rules.specs.Words.{among}
 use Rattle.rules.specs.Reading.{got}
 use Rattle.cells.specs.Cells.{held}
+use Rattle.cells.proofs.Places.{cell-range, few-cells}
 use Rattle.answering.specs.Rows.{Remarked}
 use Rattle.answering.specs.Playing.{Playable, refusalOf, checked}
 use Rattle.answering.proofs.Rows.{remarked-self, same-back, remarked-twice, at-ended}
-use Rattle.answering.proofs.Playing.{Going, playable-same, board-fits, root-ended, started-open, playing-starts, playing-stopped, playing-done, playing-few, playing-cell, playing-asked, playing-rows, playing-answer, playing-again, cell-small, Wrote, wrote-long}
+use Rattle.answering.proofs.Playing.{Going, playable-same, board-fits, root-ended, started-open, playing-starts, playing-stopped, playing-done, playing-few, playing-cell, playing-asked, playing-rows, playing-answer, playing-again, Wrote, wrote-long}
 use Rattle.answering.proofs.play_moves.Statement.{statement}
 use Rattle.answering.proofs.play_moves.Tie as tie
 
@@ -148,7 +149,7 @@ answer-to-requires c κs =
     let h = sheet-of (opened l) in
     let g = l .loop .inv .plays _ h in
     let f = fine-move (c .before) in
-    (cell-small _ _ (board-fits h) (playing-cell h g _ f) .0, playing-asked h g _ f)
+    (cell-range _ _ (playing-cell h g _ f) .0, playing-asked h g _ f)
 
 -- the answer is a cell of the board
 answer-cell : (c : tie.After-answer-to Inv-loop μ-loop) → T (isCell (entry (opened (turn (tested (told c)) .before)) .args .board) (c .answer-to .result))
@@ -172,8 +173,8 @@ with-requires-2 c κs =
 cast-room : tie.Need-cast-room Inv-loop μ-loop
 cast-room c =
     let a = replied c in
-    let small = cell-small _ _ (board-fits (sheet-of (opened (turn (tested (told a)) .before)))) (answer-cell a) .1 in
-    record { fits = omega (arith, small) }
+    let few = few-cells _ (board-fits (sheet-of (opened (turn (tested (told a)) .before)))) in
+    record { fits = omega (arith, cell-range _ _ (answer-cell a) .1, few) }
 
 -- there is room for the answer
 room-there : (c : tie.After-answer-to Inv-loop μ-loop) → turn (tested (told c)) .before .loop .i < length (turn (tested (told c)) .before .loop .room)

@@ -4,7 +4,9 @@ use mathlib.Core.Bool.{Bool, _||_, or-comm, or-false}
 use native.Mathlib.Nat.{pos-of-ne-zero}
 use lib.Dec.{eqb}
 use Rattle.cells.specs.Cells.{held}
-use Rattle.nodes.proofs.Collecting.{no-stone, stone-cell, cell-of}
+use Rattle.rules.specs.Board.{cells}
+use Rattle.cells.proofs.Places.{range-cell}
+use Rattle.nodes.proofs.Collecting.{no-stone, stone-cell}
 use Rattle.nodes.proofs.with_stone.Statement.{statement}
 use Rattle.nodes.proofs.with_stone.Tie as tie
 
@@ -14,7 +16,8 @@ returns c = λ x.
     sym (or-false y) ∙ ap (λ (z : Bool). y || z) (sym (no-stone (c .before .args .cell) x (c .if1 .taken)))
 
 with-requires : tie.Need-with-requires
-with-requires c κs = (c .before .pre .0, cell-of _ _ (c .before .pre .1) (pos-of-ne-zero (c .if1 .left)))
+unfolding cells
+with-requires c κs = (c .before .pre .0, range-cell _ _ (pos-of-ne-zero (c .if1 .left)) (c .before .pre .1))
 
 returns-2 : tie.Need-returns-2
 returns-2 c = λ x.
