@@ -21,6 +21,6 @@ fn main() {
     let mut workspace = [0u32; 8192];
     let verdict = judge(&text[..n], &mut workspace);
     let mut room = [0u8; 77];
-    let length = report(&mut room, verdict);
+    let length = report(&mut room, 0, verdict);
     print(&room, length);
 }

@@ -1,141 +1,130 @@
--- How the code reads the fields of a line: a number digit by digit, and one number after another.
-use mathlib.Core.Path.{_≡_, refl, sym, ap, _∙_}
-use Prim.Native.Nat.{ℕ, _+_, _*_, _-_, _/_, _%_, _<_, _≤_}
+-- The fields of a line: where a field ends, and that a text begins with one field only.
+use mathlib.Core.Path.{_≡_, refl, sym, ap}
+use Prim.Native.Nat.{ℕ, _+_, _-_, _<_, _≤_}
 use mathlib.Core.List.{List, [], _∷_, _++_, append-assoc, append-nil}
 use mathlib.Core.Logic.{⊎-elim}
-use native.Mathlib.Numerals.{add-one}
-use native.Mathlib.Nat.{eq-zero-or-pos}
+use native.Mathlib.Nat.{eq-zero-or-pos, add-zero}
 use native.Mathlib.Omega.{arith}
-use lib.ListN.{length, getD, take, drop, set, length-set, take-append-drop}
-use lib.Seq.{take-suc, take-all, take-suc-set, drop-cons, drop-drop, drop-length}
+use lib.ListN.{length, getD, take, drop, length-take, length-drop, take-append-drop}
+use lib.Seq.{drop-drop, getD-take, getD-drop}
 use Rattle.rules.specs.Text.{Bytes}
 use Rattle.report.specs.Decimal.{decimal}
 use Rattle.report.specs.Line.{fields}
-use Rattle.report.proofs.Line.{fields-append}
-use Rattle.report.proofs.Decimal.{decimal-low, decimal-high}
-use Rattle.replies.specs.Request.{Plain, NumberReply, nameOf, FieldEnd, CountOf, Counted, CountReply, AskReply, RequestReply, LineReply}
-use Rattle.replies.specs.declared.Ask.{Ask}
-use Rattle.replies.specs.declared.RequestRead.{RequestRead}
-use Rattle.replies.specs.declared.RequestRead.the-variants as RequestRead
-use Rattle.replies.specs.declared.AskRead.{AskRead}
-use Rattle.replies.specs.declared.AskRead.the-variants as AskRead
-use Rattle.replies.specs.declared.CountRead.{CountRead}
-use Rattle.replies.specs.declared.CountRead.the-variants as CountRead
-use Rattle.replies.specs.declared.NumberRead.{NumberRead}
-use Rattle.replies.specs.declared.NumberRead.the-variants as NumberRead
+use Rattle.report.proofs.Decimal.{Every, every-tail, every-so, decimal-digits}
+use Rattle.report.proofs.ReadBack.{decimal-one}
+use Rattle.replies.specs.Request.{FieldEnd}
 
--- the first i digits of a number's field spell the value
-pub record Scanned (field : Bytes) (value i : ℕ) : Type 0 where
-  pub plain : Plain field
-  pub on : i ≤ length field
-  pub small : value ≤ 4294967295
-  pub none : i ≡ 0 → value ≡ 0
-  pub spells : 0 < i → take i field ≡ decimal value
-  pub high : 0 < i → 1 < length field → 0 < value
+-- no byte of a field is a tab
+abbrev pub Whole : Bytes → Type 0
+Whole t = Every (λ (b : ℕ). ¬ (b ≡ 9)) t
 
-pub scanned-none : {field : Bytes} → Plain field → Scanned field 0 0
-scanned-none p =
-    record { plain = p; on = omega arith; small = omega arith; none = λ _. refl; spells = λ h. absurd (omega arith); high = λ h. absurd (omega arith) }
+-- what follows a field: nothing, or a tab and more
+pub record Ends (t : Bytes) : Type 0 where
+  pub stops : 0 < length t → getD t 0 0 ≡ 9
 
--- a digit more
-pub scanned-more : {field : Bytes} {value i : ℕ} → Scanned field value i → i < length field
-    → 48 ≤ getD field i 0 → getD field i 0 ≤ 57 → value * 10 + (getD field i 0 - 48) ≤ 4294967295
-    → Scanned field (value * 10 + (getD field i 0 - 48)) (i + 1)
-scanned-more {field} {value} {i} s h l u m =
-    record {
-      plain = s .plain;
-      on = omega arith;
-      small = m;
-      none = λ e. absurd (omega arith);
-      spells = λ _. rw (add-one, take-suc field i 0 h) (⊎-elim first later (eq-zero-or-pos i));
-      high = λ _ k. ⊎-elim (λ e. lead e k) (λ p. omega (arith, s .high p k)) (eq-zero-or-pos i);
-    }
-  where
-    first : i ≡ 0 → take i field ++ getD field i 0 ∷ [] ≡ decimal (value * 10 + (getD field i 0 - 48))
-    first e =
-        let z : value ≡ 0 = s .none e in
-        let d : value * 10 + (getD field i 0 - 48) < 10 = omega arith in
-        let n : 48 + (value * 10 + (getD field i 0 - 48)) ≡ getD field i 0 = omega arith in
-        rw (decimal-low _ d, n, e)
+-- what follows a field is no field's beginning
+no-start : {t : Bytes} (b : ℕ) (c u : Bytes) → Ends t → Whole (b ∷ c) → ¬ (t ≡ b ∷ u)
+no-start b c u e w h = w .each 0 (omega arith) ((rw h at e) .stops (omega arith))
 
-    later : 0 < i → take i field ++ getD field i 0 ∷ [] ≡ decimal (value * 10 + (getD field i 0 - 48))
-    later p =
-        let v : 0 < value = s .high p (omega arith) in
-        let d : (value * 10 + (getD field i 0 - 48)) / 10 ≡ value = omega arith in
-        let n : 48 + (value * 10 + (getD field i 0 - 48)) % 10 ≡ getD field i 0 = omega arith in
-        rw (decimal-high (value * 10 + (getD field i 0 - 48)) (omega arith), d, n, s .spells p)
+-- a text begins with one field only
+pub field-one : (a b : Bytes) {t u : Bytes} → Whole a → Whole b → Ends t → Ends u → a ++ t ≡ b ++ u → (a ≡ b) × (t ≡ u)
+field-one [] [] p q d e h = (refl, h)
+field-one [] (y ∷ b) p q d e h = absurd (no-start y b _ d q h)
+field-one (x ∷ a) [] p q d e h = absurd (no-start x a _ e p (sym h))
+field-one (x ∷ a) (y ∷ b) {t} {u} p q d e h =
+    let k : a ++ t ≡ b ++ u = cc in
+    let r = field-one a b (every-tail p) (every-tail q) d e k in
+    let f : a ≡ b = r .0 in
+    (cc, r .1)
 
-    lead : i ≡ 0 → 1 < length field → 0 < value * 10 + (getD field i 0 - 48)
-    lead e k =
-        ⊎-elim
-        (λ z. absurd (s .plain .lead k (ap (λ (j : ℕ). getD field j 0) (sym e) ∙ omega arith)))
-        (λ p. omega arith)
-        (eq-zero-or-pos (getD field i 0 - 48))
+-- a number's digits are a field
+pub decimal-whole : (n : ℕ) → Whole (decimal n)
+decimal-whole n = every-so (λ b d e. omega (arith, d .least)) (decimal-digits n)
 
--- the whole field is the number
-pub scanned-all : {field : Bytes} {value i : ℕ} → Scanned field value i → length field ≤ i → field ≡ decimal value
-scanned-all {field} {value} {i} s h =
-    sym (take-all i field h) ∙ s .spells (omega (arith, s .plain .some))
-
--- the kind that is asked is known, and so how many numbers it has
-pub counted-as : {ask a : Ask} (n : ℕ) → ask ≡ a → Counted a n → Counted ask n
-counted-as n e h = rw e h
-
--- the field that was read is the number
-pub got-number : {field : Bytes} {r : NumberRead} {v : ℕ} → NumberReply field r → r ≡ NumberRead.Got v → field ≡ decimal v
-got-number h e = rw e at h
-
--- the line from a place on is numbers up to the place `end`, where a field ends
-pub record Listing (line : Bytes) (at : ℕ) (numbers : List ℕ) (end count : ℕ) : Type 0 where
-  pub ends : FieldEnd line 0 end
-  pub long : length numbers ≡ 403
-  pub few : count ≤ 403
-  pub listed : drop at line ≡ fields (take count numbers) ++ drop end line
-
-pub listing-none : {line : Bytes} {at : ℕ} {numbers : List ℕ} → FieldEnd line 0 at → length numbers ≡ 403 → Listing line at numbers at 0
+-- numbers may follow a field, whatever may follow them
+fields-ends : (ns : List ℕ) (t : Bytes) → Ends t → Ends (fields ns ++ t)
 unfolding fields
-listing-none e l = record { ends = e; long = l; few = omega arith; listed = refl }
+fields-ends [] t e = e
+fields-ends (n ∷ ns) t e = record { stops = λ _. refl }
 
--- a number more
-pub listing-more : {line : Bytes} {at : ℕ} {numbers : List ℕ} {end count end₁ : ℕ} (v : ℕ) → Listing line at numbers end count
-    → end < length line → count < 403 → FieldEnd line (end + 1) end₁ → take (end₁ - (end + 1)) (drop (end + 1) line) ≡ decimal v
-    → Listing line at (set numbers count v) end₁ (count + 1)
+-- a field may be the last
+ends-none : Ends []
+ends-none = record { stops = λ h. absurd (omega arith) }
+
+-- numbers may follow a field, and be the last
+pub numbers-end : (ns : List ℕ) → Ends (fields ns)
+numbers-end ns = rw append-nil at (fields-ends ns [] ends-none)
+
+-- the numbers ns begin with ms, and the others are the text
+pub record Others (ms ns : List ℕ) (t : Bytes) : Type 0 where
+  pub rest : List ℕ
+  pub splits : ns ≡ ms ++ rest
+  pub reads : t ≡ fields rest
+
+-- where the numbers of a line begin as those of another do, so do the lists
+pub fields-others : (ms ns : List ℕ) {t : Bytes} → Ends t → fields ns ≡ fields ms ++ t → Others ms ns t
 unfolding fields
-listing-more {line} {at} {numbers} {end} {count} {end₁} v s h f e d =
-    record {
-      ends = record { on = omega arith; inside = e .inside; stops = e .stops };
-      long = simp length-set (s .long);
-      few = omega arith;
-      listed = s .listed ∙ rw (add-one, take-suc-set numbers count v (omega (arith, s .long)), fields-append, append-assoc) (ap (λ (t : Bytes). fields (take count numbers) ++ t) field);
-    }
+fields-others [] ns e h = record { rest = ns; splits = refl; reads = sym h }
+fields-others (m ∷ ms) [] e h = absurd (omega (arith, ap length h))
+fields-others (m ∷ ms) (n ∷ ns) {t} e h =
+    let k : decimal n ++ fields ns ≡ (decimal m ++ fields ms) ++ t = cc in
+    let one = field-one (decimal n) (decimal m) (decimal-whole n) (decimal-whole m) (numbers-end ns) (fields-ends ms t e) (rw append-assoc at k) in
+    let r = fields-others ms ns e (one .1) in
+    let f : n ≡ m = decimal-one (one .0) in
+    record { rest = r .rest; splits = cc (r .splits); reads = r .reads }
+
+-- a line's numbers are one list
+pub fields-one : (ns ms : List ℕ) → fields ns ≡ fields ms → ns ≡ ms
+unfolding fields
+fields-one ns ms h = go (o .rest) (o .splits) (o .reads)
   where
-    rest : drop (end + 1) line ≡ decimal v ++ drop end₁ line
-    rest =
-        let k : end + 1 + (end₁ - (end + 1)) ≡ end₁ = omega (arith, e .on) in
-        sym (take-append-drop (end₁ - (end + 1)) (drop (end + 1) line)) ∙ rw (d, drop-drop, k)
+    o : Others ms ns []
+    o = fields-others ms ns ends-none (rw append-nil h)
 
-    field : drop end line ≡ fields (v ∷ []) ++ drop end₁ line
-    field = rw (drop-cons line end 0 h, s .ends .stops h, ← add-one end, rest) (ap (λ (t : Bytes). 9 ∷ t ++ drop end₁ line) (sym (append-nil (decimal v))))
+    go : (rest : List ℕ) → ns ≡ ms ++ rest → [] ≡ fields rest → ns ≡ ms
+    go [] s r = rw append-nil at s
+    go (n ∷ rest) s r = absurd (omega (arith, ap length r))
 
--- the numbers are the rest of the line
-pub listing-all : {line : Bytes} {at : ℕ} {numbers : List ℕ} {end count : ℕ} → Listing line at numbers end count → length line ≤ end → CountOf line at numbers count
-listing-all {line} {at} {numbers} {end} {count} s h =
-    let e : end ≡ length line = omega (arith, s .ends .inside) in
-    record { few = s .few; reads = s .listed ∙ rw (e, drop-length, append-nil) }
+-- from where a field begins, the bytes up to a place are its own
+pub record Passed (line : Bytes) (begin end : ℕ) : Type 0 where
+  pub on : begin ≤ end
+  pub inside : end ≤ length line
+  pub next : (j : ℕ) → begin ≤ j → j < end → ¬ (getD line j 0 ≡ 9)
 
--- the word and the numbers that were read
-pub got-ask : {field : Bytes} {r : AskRead} {ask : Ask} → AskReply field r → r ≡ AskRead.Got ask → field ≡ nameOf ask
-got-ask h e = rw e at h
+-- no byte yet
+pub passed-none : {line : Bytes} {begin : ℕ} → begin ≤ length line → Passed line begin begin
+passed-none h = record { on = omega arith; inside = h; next = λ j l k. absurd (omega arith) }
 
-pub got-count : {line : Bytes} {at : ℕ} {numbers : List ℕ} {r : CountRead} {n : ℕ} → CountReply line at numbers r → r ≡ CountRead.Got n → CountOf line at numbers n
-got-count h e = rw e at h
-
--- the line is the word and the numbers
-pub line-read : {line : Bytes} {end : ℕ} {numbers : List ℕ} {n : ℕ} (ask : Ask) (r : RequestRead)
-    → take end line ≡ nameOf ask → CountOf line end numbers n → RequestReply ask numbers n r → LineReply line numbers r
-line-read ask RequestRead.Malformed w k h = tt
-line-read {line} {end} {numbers} {n} ask (RequestRead.Got r) w k h =
+-- a byte more, which is no tab
+pub passed-more : {line : Bytes} {begin end : ℕ} → Passed line begin end → end < length line → ¬ (getD line end 0 ≡ 9) → Passed line begin (end + 1)
+passed-more {line} {begin} {end} p h t =
     record {
-      written = sym (take-append-drop end line) ∙ rw (h .ask-is, h .count-is, ← k .reads, ← w);
-      means = h .means;
+      on = omega (arith, p .on);
+      inside = omega arith;
+      next = λ j l k.
+          ⊎-elim (λ e. let q : j ≡ end = omega arith in rw q t) (λ s. p .next j l (omega arith)) (eq-zero-or-pos (end - j));
     }
+
+-- the field ends at a place that has a tab, or with the line
+pub passed-all : {line : Bytes} {begin end : ℕ} → Passed line begin end → (end < length line → getD line end 0 ≡ 9) → FieldEnd line begin end
+passed-all p h = record { on = p .on; inside = p .inside; stops = h; next = p .next }
+
+-- what follows the field that ends at a place of a line
+pub line-ends : (line : Bytes) (end : ℕ) → (end < length line → getD line end 0 ≡ 9) → Ends (drop end line)
+line-ends line end e = record { stops = λ h. rw (getD-drop end line 0 0, add-zero end) (e (omega (arith, length-drop end line))) }
+
+module _ {line : Bytes} {begin end : ℕ} (e : FieldEnd line begin end) where
+  -- the line from where the field begins on is the field and what follows it
+  pub field-split : drop begin line ≡ take (end - begin) (drop begin line) ++ drop end line
+  field-split =
+      let k : begin + (end - begin) ≡ end = omega (arith, e .on) in
+      sym (rw (drop-drop, k) at (take-append-drop (end - begin) (drop begin line)))
+
+  -- no byte of the field is a tab
+  pub field-whole : Whole (take (end - begin) (drop begin line))
+  field-whole =
+      record {
+        each = λ j h.
+            let k : j < end - begin = omega (arith, length-take (end - begin) (drop begin line)) in
+            rw (getD-take (end - begin) (drop begin line) j 0 k, getD-drop begin line j 0) (e .next (begin + j) (omega arith) (omega arith));
+      }

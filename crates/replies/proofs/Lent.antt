@@ -122,32 +122,32 @@ room-laid xs room later number f e silent =
     })
 
 -- so the memory is never found otherwise
-never : {ok : Bool} → ok ≡ true → ok ≡ false → ⊥
+pub never : {ok : Bool} → ok ≡ true → ok ≡ false → ⊥
 never e f = let z : _≡_ {A = ℕ} 0 1 = cc in omega arith
 
 pub workspace-never : {w later : List ℕ} {ok : Bool} → FilledFrom 0 w → later ≡ workspaceAfter w → (WorkspaceLaid later → ok ≡ true) → ok ≡ false → ⊥
 workspace-never {w} f e finds bad = never (finds (subst⁻¹ WorkspaceLaid e (workspace-laid w f))) bad
 
-pub play-never : {w : List ℕ} {t : Bytes} {moves room : List ℕ} {r : Played} {w′ room′ : List ℕ} {ok : Bool} (number : ℕ) → FilledFrom 0 room → PlayKept w t moves room r w′ room′
-    → number ≡ told (r .verdict) .number → (RoomLaid number (r .answers) room′ → ok ≡ true) → ok ≡ false → ⊥
+pub play-never : {w : List ℕ} {t : Bytes} {moves room : List ℕ} {r : Played} {w′ room′ : List ℕ} {ok : Bool} (number : ℕ) → FilledFrom 0 room → FilledFrom 0 w
+    → PlayKept w t moves room r w′ room′ → number ≡ told (r .verdict) .number → (WorkspaceLaid w′ → RoomLaid number (r .answers) room′ → ok ≡ true) → ok ≡ false → ⊥
 unfolding playShown
-play-never {w} {t} {moves} {room} {r} {w′} {room′} number f k e finds bad =
+play-never {w} {t} {moves} {room} {r} {w′} {room′} number f g k e finds bad =
     let o = play (length w) t moves (length room) in
     let many : r .answers ≡ length (o .answers) = ap (λ (z : Played). z .answers) (k .reply) in
     let told-so : number ≡ told (o .verdict) .number = e ∙ ap (λ (z : Played). told (z .verdict) .number) (k .reply) in
     never
-    (finds (subst⁻¹ (λ (n : ℕ). RoomLaid number n room′) many
+    (finds (subst⁻¹ WorkspaceLaid (k .memory) (workspace-laid w g)) (subst⁻¹ (λ (n : ℕ). RoomLaid number n room′) many
     (room-laid (o .answers) room room′ number f (k .answers) (λ h. play-silent (length w) t moves (length room) (λ z. h (told-so ∙ z))))))
     bad
 
-pub outcome-never : {w : List ℕ} {t : Bytes} {i : ℕ} {room : List ℕ} {r : Named} {w′ room′ : List ℕ} {ok : Bool} (number : ℕ) → FilledFrom 0 room → OutcomeKept w t i room r w′ room′
-    → number ≡ told (r .verdict) .number → (RoomLaid number (r .cells) room′ → ok ≡ true) → ok ≡ false → ⊥
+pub outcome-never : {w : List ℕ} {t : Bytes} {i : ℕ} {room : List ℕ} {r : Named} {w′ room′ : List ℕ} {ok : Bool} (number : ℕ) → FilledFrom 0 room → FilledFrom 0 w
+    → OutcomeKept w t i room r w′ room′ → number ≡ told (r .verdict) .number → (WorkspaceLaid w′ → RoomLaid number (r .cells) room′ → ok ≡ true) → ok ≡ false → ⊥
 unfolding outcomeShown
-outcome-never {w} {t} {i} {room} {r} {w′} {room′} number f k e finds bad =
+outcome-never {w} {t} {i} {room} {r} {w′} {room′} number f g k e finds bad =
     let o = outcome (length w) t i (length room) in
     let many : r .cells ≡ length (o .cells) = ap (λ (z : Named). z .cells) (k .reply) in
     let told-so : number ≡ told (o .verdict) .number = e ∙ ap (λ (z : Named). told (z .verdict) .number) (k .reply) in
     never
-    (finds (subst⁻¹ (λ (n : ℕ). RoomLaid number n room′) many
+    (finds (subst⁻¹ WorkspaceLaid (k .memory) (workspace-laid w g)) (subst⁻¹ (λ (n : ℕ). RoomLaid number n room′) many
     (room-laid (o .cells) room room′ number f (k .cells) (λ h. outcome-silent (length w) t i (length room) (λ z. h (told-so ∙ z))))))
     bad

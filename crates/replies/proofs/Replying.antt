@@ -1,36 +1,116 @@
--- A reply's line, written part by part, and the request that it answers.
-use mathlib.Core.Path.{_≡_}
-use Prim.Native.Nat.{ℕ, _≤_}
+-- A reply's line, written part by part, is the reply that is defined.
+use mathlib.Core.Path.{_≡_, refl, sym, ap, subst, _∙_}
+use Prim.Native.Nat.{ℕ, _+_, _*_, _-_, _≤_}
 use mathlib.Core.List.{List, [], _∷_, _++_}
 use native.Mathlib.Omega.{arith}
-use lib.ListN.{length, take, length-take}
+use lib.ListN.{length, getD, take, drop, length-take}
+use lib.Seq.{length-take-le, getD-take, take-add, take-at, drop-at}
+use Rattle.rules.specs.Words.{oneIf}
 use Rattle.rules.specs.Text.{Bytes}
-use Rattle.replies.specs.Request.{Counted, RequestOf, LineReply}
+use Rattle.rules.specs.Verdict.{told}
+use Rattle.rules.specs.Entries.{judge, play, playShown, outcome, outcomeShown, roomAfter, JudgeKept, PlayKept, OutcomeKept}
+use Rattle.rules.specs.declared.Told.{Told}
+use Rattle.rules.specs.declared.Verdict.{Verdict}
+use Rattle.rules.specs.declared.Played.{Played}
+use Rattle.rules.specs.declared.Named.{Named}
+use Rattle.report.specs.Decimal.{decimal}
+use Rattle.report.specs.Line.{fields, lineOf, reportLine}
+use Rattle.report.specs.Writing.{Wrote, WroteWithin}
+use Rattle.report.proofs.Writing.{wrote-then}
+use Rattle.report.proofs.Line.{line-parts}
+use Rattle.replies.specs.Request.{Counted, RequestOf}
+use Rattle.replies.specs.Reply.{toldLine, judgeLine, playLine, outcomeLine, replyOf}
 use Rattle.replies.specs.declared.Ask.{Ask}
 use Rattle.replies.specs.declared.Ask.the-variants as Ask
 use Rattle.replies.specs.declared.Request.{Request}
-use Rattle.replies.specs.declared.RequestRead.{RequestRead}
-use Rattle.replies.specs.declared.RequestRead.the-variants as RequestRead
-use Rattle.report.specs.Decimal.{decimal}
-use Rattle.report.specs.Line.{fields, lineOf}
-use Rattle.report.specs.Writing.{Wrote, WroteWithin, Printed}
-use Rattle.report.proofs.Writing.{wrote-then, printed}
-use Rattle.report.proofs.Line.{line-parts}
 
 -- the first number, two lists of others and a line feed are one line
-pub reply-printed : (n : ℕ) (a b : List ℕ) {most most′ : ℕ} {room room₁ : List ℕ} {e₁ : ℕ} {room₂ : List ℕ} {e₂ : ℕ} {room₃ : List ℕ} {e₃ : ℕ} {room₄ : List ℕ} {e₄ : ℕ}
-    → WroteWithin 10 (decimal n) room 0 room₁ e₁ → WroteWithin most (fields a) room₁ e₁ room₂ e₂ → WroteWithin most′ (fields b) room₂ e₂ room₃ e₃
-    → Wrote (10 ∷ []) room₃ e₃ room₄ e₄ → Printed (lineOf n (a ++ b)) room room₄ e₄
-reply-printed n a b v w x u = rw (line-parts n a b) (printed (wrote-then (wrote-then (wrote-then (v .wrote) (w .wrote)) (x .wrote)) u))
+pub wrote-reply : (n : ℕ) (a b : List ℕ) {most most′ : ℕ} {room : Bytes} {at : ℕ} {room₁ : Bytes} {e₁ : ℕ} {room₂ : Bytes} {e₂ : ℕ} {room₃ : Bytes} {e₃ : ℕ} {room₄ : Bytes} {e₄ : ℕ}
+    → WroteWithin 10 (decimal n) room at room₁ e₁ → WroteWithin most (fields a) room₁ e₁ room₂ e₂ → WroteWithin most′ (fields b) room₂ e₂ room₃ e₃
+    → Wrote (10 ∷ []) room₃ e₃ room₄ e₄ → Wrote (lineOf n (a ++ b)) room at room₄ e₄
+wrote-reply n a b v w x u = rw (line-parts n a b) (wrote-then (wrote-then (wrote-then (v .wrote) (w .wrote)) (x .wrote)) u)
 
 -- the first n numbers are n at most
 pub take-short : (n m : ℕ) (l : List ℕ) → n ≤ m → length (take n l) ≤ m
 take-short n m l h = omega (arith, length-take n l)
 
--- a play has its room
+-- a reply with six further numbers at most and a thousand that are listed has its place
+pub reply-fits : (n : ℕ) (l : List ℕ) (at further : ℕ) {size : ℕ} → at + 11077 ≤ size → n ≤ 1000 → further ≤ 66 → at + further + 11 * length (take n l) + 11 ≤ size
+reply-fits n l at further h k m = omega (arith, length-take n l)
+
+-- what is listed stands first in the room
+listed-first : (xs room later : List ℕ) → later ≡ roomAfter xs room → take (length xs) later ≡ xs
+unfolding roomAfter
+listed-first xs room later e = ap (take (length xs)) e ∙ take-at xs (drop (length xs) room) (length xs) refl
+
+module _ {workspace workspace′ : List ℕ} {t replies : Bytes} {at : ℕ} {replies′ : Bytes} {end : ℕ} where
+  -- judge's reply
+  pub wrote-judge : {v : Verdict} → JudgeKept workspace t v workspace′ → Wrote (reportLine (told v)) replies at replies′ end
+      → Wrote (judgeLine (length workspace) t) replies at replies′ end
+  unfolding judgeLine
+  wrote-judge k w = subst (λ (v : Verdict). Wrote (reportLine (told v)) replies at replies′ end) (k .reply) w
+
+  module _ {room room′ : List ℕ} where
+    -- play's reply
+    module _ {moves : List ℕ} {p : Played} (k : PlayKept workspace t moves room p workspace′ room′) where
+      pub wrote-play : {r : Told} {place answers over : ℕ} → r ≡ told (p .verdict) → place ≡ p .place → answers ≡ p .answers → over ≡ oneIf (p .over)
+          → Wrote (toldLine r ((place ∷ answers ∷ over ∷ []) ++ take (p .answers) room′)) replies at replies′ end
+          → Wrote (playLine (length workspace) t moves (length room)) replies at replies′ end
+      unfolding playLine playShown
+      wrote-play e f g h w = subst (λ (l : Bytes). Wrote l replies at replies′ end) (rw (e, f, g, h, k .reply, listed-first _ room room′ (k .answers))) w
+
+    -- outcome's reply
+    module _ {number : ℕ} {n : Named} (k : OutcomeKept workspace t number room n workspace′ room′) where
+      pub wrote-outcome : {r : Told} {cells : ℕ} → r ≡ told (n .verdict) → cells ≡ n .cells
+          → Wrote (toldLine r ((cells ∷ []) ++ take (n .cells) room′)) replies at replies′ end
+          → Wrote (outcomeLine (length workspace) t number (length room)) replies at replies′ end
+      unfolding outcomeLine outcomeShown
+      wrote-outcome e f w = subst (λ (l : Bytes). Wrote l replies at replies′ end) (rw (e, f, k .reply, listed-first _ room room′ (k .cells))) w
+
+-- memory that was filled is as long as it was
+module _ (t : Bytes) {replies : Bytes} {at : ℕ} {replies′ : Bytes} {end w w′ : ℕ} (e : w ≡ w′) where
+  pub judge-as : Wrote (judgeLine w t) replies at replies′ end → Wrote (judgeLine w′ t) replies at replies′ end
+  judge-as h = rw (← e) h
+
+  module _ {room room′ : ℕ} (f : room ≡ room′) where
+    pub play-as : (moves : List ℕ) → Wrote (playLine w t moves room) replies at replies′ end → Wrote (playLine w′ t moves room′) replies at replies′ end
+    play-as moves h = rw (← e, ← f) h
+
+    pub outcome-as : (number : ℕ) → Wrote (outcomeLine w t number room) replies at replies′ end → Wrote (outcomeLine w′ t number room′) replies at replies′ end
+    outcome-as number h = rw (← e, ← f) h
+
+-- a request's numbers are among those that were read, and a play's are three at least
+pub count-within : (numbers : List ℕ) {r : Request} → RequestOf (take (r .count) numbers) r → r .count ≤ length numbers
+count-within numbers {r} h = omega (arith, h .size, length-take (r .count) numbers)
+
 pub play-counted : {ask : Ask} (n : ℕ) → Counted ask n → ask ≡ Ask.Play → 3 ≤ n
 play-counted n h e = rw e at h
 
--- the request that was read
-pub got-request : (line : Bytes) {numbers : List ℕ} {r : RequestRead} {q : Request} → LineReply line numbers r → r ≡ RequestRead.Got q → RequestOf numbers q
-got-request line h e = (rw e at h) .means
+-- the numbers from place i up to place n
+later-numbers : (i n : ℕ) (l : List ℕ) → i ≤ n → n ≤ length l → drop i (take n l) ≡ take (n - i) (drop i l)
+later-numbers i n l h k =
+    let sum : i + (n - i) ≡ n = omega arith in
+    ap (λ (m : ℕ). drop i (take m l)) (sym sum) ∙ ap (drop i) (take-add i (n - i) l) ∙ drop-at (take i l) (take (n - i) (drop i l)) i (length-take-le i l (omega arith))
+
+-- the reply to a request by what it asks, with as much memory lent as it says
+module _ {r : Request} (numbers : List ℕ) (t : Bytes) {replies : Bytes} {at : ℕ} {replies′ : Bytes} {end : ℕ} (workspace : List ℕ) (h : RequestOf (take (r .count) numbers) r) (lent : r .work ≤ length workspace) where
+  pub replied-judge : r .ask ≡ Ask.Judge → Wrote (judgeLine (length (take (r .work) workspace)) t) replies at replies′ end
+      → Wrote (replyOf r (take (r .count) numbers) t) replies at replies′ end
+  unfolding replyOf
+  replied-judge e w = rw e (judge-as t (length-take-le (r .work) workspace lent) w)
+
+  module _ (room : List ℕ) (fits : r .room ≤ length room) where
+    pub replied-play : r .ask ≡ Ask.Play → Wrote (playLine (length (take (r .work) workspace)) t (take (r .count - 3) (drop 3 numbers)) (length (take (r .room) room))) replies at replies′ end
+        → Wrote (replyOf r (take (r .count) numbers) t) replies at replies′ end
+    unfolding replyOf
+    replied-play e w =
+        let moves = later-numbers 3 (r .count) numbers (play-counted (r .count) (h .counted) e) (count-within numbers h) in
+        rw (e, moves) (play-as t (length-take-le (r .work) workspace lent) (length-take-le (r .room) room fits) _ w)
+
+    pub replied-outcome : r .ask ≡ Ask.Outcome → Wrote (outcomeLine (length (take (r .work) workspace)) t (getD numbers 3 0) (length (take (r .room) room))) replies at replies′ end
+        → Wrote (replyOf r (take (r .count) numbers) t) replies at replies′ end
+    unfolding replyOf
+    replied-outcome e w =
+        let four : r .count ≡ 4 = rw e at (h .counted) in
+        let number = getD-take (r .count) numbers 3 0 (omega arith) in
+        rw (e, number) (outcome-as t (length-take-le (r .work) workspace lent) (length-take-le (r .room) room fits) _ w)

@@ -24,34 +24,46 @@ nameOf Ask.Judge = 106 ∷ 117 ∷ 100 ∷ 103 ∷ 101 ∷ []
 nameOf Ask.Play = 112 ∷ 108 ∷ 97 ∷ 121 ∷ []
 nameOf Ask.Outcome = 111 ∷ 117 ∷ 116 ∷ 99 ∷ 111 ∷ 109 ∷ 101 ∷ []
 
+-- the largest number of 32 bits
+abbrev pub largest : ℕ
+largest = 4294967295
+
 -- a field has a byte at least, and no 0 in front of another
 pub record Plain (field : Bytes) : Type 0 where
   pub some : 0 < length field
-  pub lead : 1 < length field → getD field 0 0 ≡ 48 → ⊥
+  pub lead : 1 < length field → ¬ (getD field 0 0 ≡ 48)
 
--- the field is the number in decimal
+-- the field is the number in decimal; or it is no number's
 abbrev pub NumberReply : Bytes → NumberRead → Type 0
-NumberReply field (NumberRead.Got n) = field ≡ decimal n
-NumberReply field NumberRead.Nothing = Unit {0}
+NumberReply field (NumberRead.Got n) = (n ≤ largest) × (field ≡ decimal n)
+NumberReply field NumberRead.Nothing = (n : ℕ) → n ≤ largest → ¬ (field ≡ decimal n)
 
--- a field that begins at a place ends at a tab, or with the line
+-- a field that begins at a place ends at the next tab, or with the line
 pub record FieldEnd (line : Bytes) (begin end : ℕ) : Type 0 where
   pub on : begin ≤ end
   pub inside : end ≤ length line
   pub stops : end < length line → getD line end 0 ≡ 9
+  pub next : (j : ℕ) → begin ≤ j → j < end → ¬ (getD line j 0 ≡ 9)
 
--- the line goes on with so many numbers
+-- numbers that the rest of a line can be: 403 at most, each of 32 bits
+pub record Few (numbers : List ℕ) : Type 0 where
+  pub count : length numbers ≤ 403
+  pub small : (j : ℕ) → getD numbers j 0 ≤ largest
+
+-- the line goes on with so many numbers; or with no such numbers
 pub record CountOf (line : Bytes) (at : ℕ) (numbers : List ℕ) (n : ℕ) : Type 0 where
-  pub few : n ≤ 403
+  pub size : length (take n numbers) ≡ n
+  pub few : Few (take n numbers)
   pub reads : drop at line ≡ fields (take n numbers)
 
 abbrev pub CountReply : Bytes → ℕ → List ℕ → CountRead → Type 0
 CountReply line at numbers (CountRead.Got n) = CountOf line at numbers n
-CountReply line at numbers CountRead.Malformed = Unit {0}
+CountReply line at numbers CountRead.Malformed = (ns : List ℕ) → Few ns → ¬ (drop at line ≡ fields ns)
 
+-- the field is the word of what is asked; or no such word
 abbrev pub AskReply : Bytes → AskRead → Type 0
 AskReply field (AskRead.Got ask) = field ≡ nameOf ask
-AskReply field AskRead.Unknown = Unit {0}
+AskReply field AskRead.Unknown = (ask : Ask) → ¬ (field ≡ nameOf ask)
 
 -- judge: workspace, bytes; play: those, room and cells; outcome: those, room and the outcome's number
 abbrev pub Counted : Ask → ℕ → Type 0
@@ -59,32 +71,37 @@ Counted Ask.Judge n = n ≡ 2
 Counted Ask.Play n = 3 ≤ n
 Counted Ask.Outcome n = n ≡ 4
 
--- the numbers of a request, within the limits
+-- the room that is lent: the third number, where there is one
+abbrev pub roomOf : List ℕ → ℕ
+roomOf numbers = getD numbers 2 0
+
+-- what the numbers of a request mean, within the limits
 pub record RequestOf (numbers : List ℕ) (r : Request) : Type 0 where
+  pub size : length numbers ≡ r .count
   pub work-is : r .work ≡ getD numbers 0 0
   pub bytes-is : r .bytes ≡ getD numbers 1 0
-  pub room-is : 3 ≤ r .count → r .room ≡ getD numbers 2 0
+  pub room-is : r .room ≡ roomOf numbers
   pub counted : Counted (r .ask) (r .count)
-  pub few : r .count ≤ 403
   pub work-within : r .work ≤ 9000
   pub bytes-within : r .bytes ≤ 65536
   pub room-within : r .room ≤ 1000
 
--- the request that is asked with the first n numbers
-pub record Asked (ask : Ask) (numbers : List ℕ) (n : ℕ) (r : Request) : Type 0 where
+-- the request that asks this with the first n numbers; or there is none
+pub record Asked (ask : Ask) (numbers : List ℕ) (r : Request) : Type 0 where
   pub ask-is : r .ask ≡ ask
-  pub count-is : r .count ≡ n
   pub means : RequestOf numbers r
 
 abbrev pub RequestReply : Ask → List ℕ → ℕ → RequestRead → Type 0
-RequestReply ask numbers n (RequestRead.Got r) = Asked ask numbers n r
-RequestReply ask numbers n RequestRead.Malformed = Unit {0}
+RequestReply ask numbers n (RequestRead.Got r) = Asked ask (take n numbers) r
+RequestReply ask numbers n RequestRead.Malformed = (r : Request) → ¬ Asked ask (take n numbers) r
 
--- the line is the word of what is asked and the request's numbers
+-- the line of a request: the word of what is asked, and its numbers
 pub record LineOf (line : Bytes) (numbers : List ℕ) (r : Request) : Type 0 where
-  pub written : line ≡ nameOf (r .ask) ++ fields (take (r .count) numbers)
+  pub few : Few numbers
+  pub written : line ≡ nameOf (r .ask) ++ fields numbers
   pub means : RequestOf numbers r
 
+-- the line is the request's, whose numbers were put first; or it is no request's
 abbrev pub LineReply : Bytes → List ℕ → RequestRead → Type 0
-LineReply line numbers (RequestRead.Got r) = LineOf line numbers r
-LineReply line numbers RequestRead.Malformed = Unit {0}
+LineReply line numbers (RequestRead.Got r) = LineOf line (take (r .count) numbers) r
+LineReply line numbers RequestRead.Malformed = (ns : List ℕ) (r : Request) → ¬ LineOf line ns r

@@ -2,18 +2,20 @@
 // reading of a request's line, the taking of the input, and the printing of the replies. It sees sheet and report.
 ghost use mathlib.Core.Path.{_≡_};
 ghost use mathlib.Core.Bool.{true};
-ghost use Prim.Native.Nat.{_+_, _*_, _≤_};
-ghost use lib.ListN.{length, getD};
-ghost use Rattle.replies.specs.Window.{Within, TakenWithin, LineWithin, PlaceFor, TextOf, TextWithin};
-ghost use Rattle.replies.specs.Answered.{AnsweredWithin};
-ghost use Rattle.replies.specs.Lent.{FilledFrom, ZeroUpTo, WorkspaceLaid, RoomLaid};
 ghost use mathlib.Core.List.{_++_};
+ghost use Prim.Native.Nat.{_+_, _*_, _<_, _≤_};
+ghost use lib.ListN.{length, getD, take};
 ghost use Rattle.report.specs.Line.{lineOf};
-ghost use Rattle.report.specs.Writing.{Printed};
+ghost use Rattle.report.specs.Writing.{Wrote};
 ghost use Rattle.replies.specs.Request.{Plain, NumberReply, FieldEnd, CountReply, AskReply, Counted, RequestOf, RequestReply, LineReply};
+ghost use Rattle.replies.specs.Reply.{judgeLine, playLine, outcomeLine, replyOf};
+ghost use Rattle.replies.specs.Answers.{LineEnd, WholeIn, FoundIn, AnswerOf, GatheredFrom};
+ghost use Rattle.replies.specs.Window.{Within, AnsweredWithin};
+ghost use Rattle.replies.specs.Lent.{FilledFrom, ZeroUpTo, WorkspaceLaid, RoomLaid};
 use check::same;
 use libc::STDIN_FILENO;
 use libc::STDOUT_FILENO;
+use report::one_if;
 use report::report;
 use report::tell;
 use report::write_byte;
@@ -31,6 +33,10 @@ const MOST_WORK: usize = 9000;
 const MOST_BYTES: usize = 65536;
 // The most numbers that are lent as room.
 const MOST_ROOM: usize = 1000;
+// The most bytes of a request's line: `play` and 403 numbers of ten digits, each after a tab.
+const MOST_LINE: usize = 4437;
+// The most bytes of a reply's line: seven numbers and a thousand more, each of ten digits and followed by a tab or the line feed.
+const MOST_REPLY: usize = 11077;
 
 // What is asked of a sheet.
 enum Ask {
@@ -62,7 +68,7 @@ enum NumberRead {
 
 // One digit at least, and no 0 in front of another.
 fn well_spelled(field: &[u8]) -> bool
-    ensures { λ r. ⌜ (r ≡ true → Plain (now (field .entry))) ⌝ }
+    ensures { λ r. ⌜ (r ≡ true → Plain (now (field .entry))) × (Plain (now (field .entry)) → r ≡ true) ⌝ }
 {
     if field.len() == 0 {
         return false;
@@ -164,7 +170,7 @@ fn read_ask(field: &[u8]) -> AskRead
 
 // Whether a request of the kind has so many numbers.
 fn right_count(ask: Ask, count: usize) -> bool
-    ensures { λ r. ⌜ (r ≡ true → Counted ask count) ⌝ }
+    ensures { λ r. ⌜ (r ≡ true → Counted ask count) × (Counted ask count → r ≡ true) ⌝ }
 {
     match ask {
         Ask::Judge => count == 2,
@@ -182,8 +188,8 @@ fn wide(n: u32) -> usize
 
 // How many numbers are lent as room: the third number, where there is one.
 fn room_lent(numbers: &[u32], count: usize) -> usize
-    requires { ⌜ length (now numbers) ≡ 403 ⌝ }
-    ensures { λ r. ⌜ (3 ≤ count → r ≡ getD (now (numbers .entry)) 2 0) ⌝ }
+    requires { ⌜ (count ≤ 403) × (length (now numbers) ≡ 403) ⌝ }
+    ensures { λ r. ⌜ r ≡ getD (take count (now (numbers .entry))) 2 0 ⌝ }
 {
     if count < 3 {
         return 0;
@@ -237,142 +243,54 @@ fn read_request(line: &[u8], numbers: &mut [u32]) -> RequestRead
     request_of(ask, numbers, count)
 }
 
-// What stands in every place of the memory that is lent, so that each change shows: all bits 1, and no number of a sheet is so large.
-const FILLING: u32 = 4294967295;
-
-// The bytes of the buffer that were read and not yet taken: from start up to end.
-struct Window {
-    start: usize,
-    end: usize,
-}
-
-// The next byte of the input, and the window after it.
-enum Taken {
-    Byte { byte: u8, window: Window },
-    End,
-}
-
-// Reads from standard input into the buffer once, and returns how many bytes came.
-fn refill(buffer: &mut [u8]) -> usize
-    ensures { λ r. ⌜ r ≤ length (now (buffer .exit)) ⌝ }
-{
-    let got = libc::read(STDIN_FILENO, buffer);
-    io::count(got, buffer)
-}
-
-// Takes one byte of the input.
-fn take_byte(buffer: &mut [u8], window: Window) -> Taken
-    requires { ⌜ Within (now buffer) window ⌝ }
-    ensures { λ r. ⌜ TakenWithin (now (buffer .exit)) r ⌝ }
-{
-    let start = window.start;
-    let end = window.end;
-    if start < end {
-        return Taken::Byte {
-            byte: buffer[start],
-            window: Window {
-                start: start + 1,
-                end,
-            },
-        };
-    }
-    let got = refill(buffer);
-    if got == 0 {
-        return Taken::End;
-    }
-    Taken::Byte {
-        byte: buffer[0],
-        window: Window { start: 1, end: got },
-    }
-}
-
-// A line of the input: its length without the line feed; or the input ends before the line; or it ends in the line, or the line is too long.
-enum Line {
-    Got { length: usize, window: Window },
-    End,
+// The first request of some bytes, and where its text begins; or the bytes end in it; or no request begins so.
+enum Found {
+    Whole { request: Request, text: usize },
+    Partial,
     Malformed,
 }
 
-// Takes a line of the input.
-fn take_line(buffer: &mut [u8], window: Window, line: &mut [u8]) -> Line
-    requires { ⌜ Within (now buffer) window ⌝ }
-    ensures { λ r. ⌜ LineWithin (now (buffer .exit)) (now (line .exit)) r ⌝ }
+// Where the first line of the bytes ends: at its line feed, with the bytes, or where no request's line is so long.
+fn line_end(bytes: &[u8]) -> usize
+    ensures { λ r. ⌜ LineEnd (now (bytes .entry)) r ⌝ }
 {
-    let mut rest = window;
-    let mut n = 0;
-    while n < line.len() {
-        let Taken::Byte { byte, window: next } = take_byte(buffer, rest) else {
-            if n == 0 {
-                return Line::End;
-            }
-            return Line::Malformed;
-        };
-        if byte == b'\n' {
-            return Line::Got {
-                length: n,
-                window: next,
-            };
+    let mut end = 0;
+    while end < bytes.len() {
+        if bytes[end] == b'\n' {
+            return end;
         }
-        line[n] = byte;
-        rest = next;
-        n += 1;
-    }
-    Line::Malformed
-}
-
-// A sheet's text as it lies in the buffer: at the front of the window; or the input ends in it.
-enum Text {
-    Got { window: Window },
-    Short,
-}
-
-// Moves the bytes of the window to the front of the buffer.
-fn to_front(buffer: &mut [u8], window: Window) -> Window
-    requires { ⌜ Within (now buffer) window ⌝ }
-    ensures { λ r. ⌜ (Within (now (buffer .exit)) r) × (r .start ≡ 0) ⌝ }
-{
-    let start = window.start;
-    let left = window.end - start;
-    let mut i = 0;
-    while i < left {
-        buffer[i] = buffer[start + i];
-        i += 1;
-    }
-    Window {
-        start: 0,
-        end: left,
-    }
-}
-
-// The window, moved where the buffer has no place for so many bytes from its start on.
-fn placed(buffer: &mut [u8], window: Window, bytes: usize) -> Window
-    requires { ⌜ (Within (now buffer) window) × (bytes ≤ length (now buffer)) ⌝ }
-    ensures { λ r. ⌜ PlaceFor bytes (now (buffer .exit)) r ⌝ }
-{
-    if bytes <= buffer.len() - window.start {
-        return window;
-    }
-    to_front(buffer, window)
-}
-
-// Reads on until the window has as many bytes as the text.
-fn take_text(buffer: &mut [u8], window: Window, bytes: usize) -> Text
-    requires { ⌜ PlaceFor bytes (now buffer) window ⌝ }
-    ensures { λ r. ⌜ TextWithin bytes (now (buffer .exit)) r ⌝ }
-{
-    let start = window.start;
-    let mut end = window.end;
-    while end - start < bytes {
-        let got = refill(&mut buffer[end..]);
-        if got == 0 {
-            return Text::Short;
+        if MOST_LINE <= end {
+            return end;
         }
-        end += got;
+        end += 1;
     }
-    Text::Got {
-        window: Window { start, end },
-    }
+    end
 }
+
+// Finds the first request of the bytes, and reads its numbers.
+fn find(bytes: &[u8], numbers: &mut [u32]) -> Found
+    requires { ⌜ length (now numbers) ≡ 403 ⌝ }
+    ensures { λ r. ⌜ FoundIn (now (bytes .entry)) (now (numbers .exit)) r ⌝ }
+{
+    let end = line_end(bytes);
+    if bytes.len() <= end {
+        return Found::Partial;
+    }
+    if bytes[end] != b'\n' {
+        return Found::Malformed;
+    }
+    let RequestRead::Got { request } = read_request(&bytes[..end], numbers) else {
+        return Found::Malformed;
+    };
+    let text = end + 1;
+    if bytes.len() - text < request.bytes {
+        return Found::Partial;
+    }
+    Found::Whole { request, text }
+}
+
+// What stands in every place of the memory that is lent, so that each change shows: all bits 1, and no number of a sheet is so large.
+const FILLING: u32 = 4294967295;
 
 // Fills the memory that is lent.
 fn fill(memory: &mut [u32])
@@ -438,46 +356,40 @@ fn room_right(room: &[u32], number: u32, written: usize) -> bool
     written == 0 && kept(room, 0)
 }
 
-// A count as a number of 32 bits; no count of a reply is larger.
-fn narrow(n: usize) -> u32 {
-    if 4294967295 < n {
-        return 4294967295;
+// Whether all memory that was lent is what document 01 lays down after a reply with the number and so many answers or cells.
+fn lent_right(workspace: &[u32], room: &[u32], number: u32, written: usize) -> bool
+    ensures { λ r. ⌜ (r ≡ true → written ≤ length (now (room .entry))) × (WorkspaceLaid (now (workspace .entry)) → RoomLaid number written (now (room .entry)) → r ≡ true) ⌝ }
+{
+    if !workspace_right(workspace) {
+        return false;
     }
+    room_right(room, number, written)
+}
+
+// A count as a number of 32 bits.
+fn narrow(n: usize) -> u32
+    requires { ⌜ n < 4294967296 ⌝ }
+    ensures { λ r. ⌜ r ≡ n ⌝ }
+{
     n as u32
 }
 
-// Writes a reply's line into the first bytes of the room, and returns its length.
-fn write_reply(room: &mut [u8], first: u32, others: &[u32], listed: &[u32]) -> usize
-    requires { ⌜ 11 * length (now others) + 11 * length (now listed) + 11 ≤ length (now room) ⌝ }
-    ensures { λ r. ⌜ Printed (lineOf first (now (others .entry) ++ now (listed .entry))) (now (room .entry)) (now (room .exit)) r ⌝ }
+// Writes a reply's line behind the replies that were gathered, and returns the place after it.
+fn write_reply(replies: &mut [u8], at: usize, first: u32, others: &[u32], listed: &[u32]) -> usize
+    requires { ⌜ at + 11 * length (now others) + 11 * length (now listed) + 11 ≤ length (now replies) ⌝ }
+    ensures { λ r. ⌜ Wrote (lineOf first (now (others .entry) ++ now (listed .entry))) (now (replies .entry)) at (now (replies .exit)) r ⌝ }
 {
-    let at = write_number(room, 0, first);
-    let middle = write_fields(room, at, others);
-    let last = write_fields(room, middle, listed);
-    write_byte(room, last, b'\n')
+    let after = write_number(replies, at, first);
+    let middle = write_fields(replies, after, others);
+    let last = write_fields(replies, middle, listed);
+    write_byte(replies, last, b'\n')
 }
 
-// Writes the first n bytes of the room to standard output.
-fn print(room: &[u8], n: usize)
-    requires { ⌜ n ≤ length (now room) ⌝ }
+// Writes the first n bytes of the replies to standard output.
+fn print(replies: &[u8], n: usize)
+    requires { ⌜ n ≤ length (now replies) ⌝ }
 {
-    io::write_all(STDOUT_FILENO, &room[..n]);
-}
-
-// Prints a reply's line: the verdict's number, the six or four further numbers, and the answers or cells.
-fn print_reply(first: u32, others: &[u32], listed: &[u32])
-    requires { ⌜ (length (now others) ≤ 6) × (length (now listed) ≤ 1000) ⌝ }
-{
-    let mut room = [0u8; 11077];
-    let n = write_reply(&mut room, first, others, listed);
-    print(&room, n);
-}
-
-// Says that the memory that was lent is not what document 01 lays down. It is proved that it never comes to that.
-fn say_memory()
-    requires { ⌜ ⊥ ⌝ }
-{
-    io::write_all(STDOUT_FILENO, b"memory\n");
+    io::write_all(STDOUT_FILENO, &replies[..n]);
 }
 
 // Says that the request is malformed.
@@ -485,117 +397,295 @@ fn say_request() {
     io::write_all(STDOUT_FILENO, b"request\n");
 }
 
-// Judges the sheet with a workspace that was filled, and prints the reply.
-fn print_judge(text: &[u8], workspace: &mut [u32])
-    requires { ⌜ FilledFrom 0 (now workspace) ⌝ }
+// Prints the replies that were gathered, and says that the memory that was lent is not what document 01 lays down. It is proved that it
+// never comes to that.
+fn say_memory(replies: &[u8], at: usize) -> usize
+    requires { ⌜ ⊥ ⌝ }
+    ensures { λ _. ⌜ ⊥ ⌝ }
+{
+    print(replies, at);
+    io::write_all(STDOUT_FILENO, b"memory\n");
+    0
+}
+
+// Judges the sheet with a workspace that was filled, and writes the reply.
+fn write_judge(text: &[u8], workspace: &mut [u32], replies: &mut [u8], at: usize) -> usize
+    requires { ⌜ FilledFrom 0 (now workspace) × (at + 11077 ≤ length (now replies)) ⌝ }
+    ensures { λ r. ⌜ Wrote (judgeLine (length (now (workspace .entry))) (now (text .entry))) (now (replies .entry)) at (now (replies .exit)) r ⌝ }
 {
     let verdict = judge(text, workspace);
     if !workspace_right(workspace) {
-        say_memory();
-        return;
+        return say_memory(replies, at);
     }
-    let mut room = [0u8; 77];
-    let n = report(&mut room, verdict);
-    print(&room, n);
+    report(replies, at, verdict)
 }
 
-// Plays the cells on the sheet with memory that was filled, and prints the reply.
-fn print_play(text: &[u8], moves: &[u32], room: &mut [u32], workspace: &mut [u32])
-    requires { ⌜ (length (now room) ≤ 1000) × FilledFrom 0 (now room) × FilledFrom 0 (now workspace) ⌝ }
+// Plays the cells on the sheet with memory that was filled, and writes the reply.
+fn write_play(
+    text: &[u8],
+    moves: &[u32],
+    room: &mut [u32],
+    workspace: &mut [u32],
+    replies: &mut [u8],
+    at: usize,
+) -> usize
+    requires filled { ⌜ (length (now room) ≤ 1000) × FilledFrom 0 (now room) × FilledFrom 0 (now workspace) ⌝ }
+    requires place { ⌜ at + 11077 ≤ length (now replies) ⌝ }
+    ensures { λ r. ⌜ Wrote (playLine (length (now (workspace .entry))) (now (text .entry)) (now (moves .entry)) (length (now (room .entry)))) (now (replies .entry)) at (now (replies .exit)) r ⌝ }
 {
     let played = play(text, moves, room, workspace);
     let verdict = played.verdict;
     let told = tell(verdict);
     let answers = played.answers;
-    if !workspace_right(workspace) {
-        say_memory();
-        return;
+    if !lent_right(workspace, room, told.number, answers) {
+        return say_memory(replies, at);
     }
-    if !room_right(room, told.number, answers) {
-        say_memory();
-        return;
-    }
-    let place = narrow(played.place);
-    let over = played.over as u32;
     let others = [
         told.line,
         told.cell,
         told.index,
-        place,
+        narrow(played.place),
         narrow(answers),
-        over,
+        one_if(played.over),
     ];
-    print_reply(told.number, &others, &room[..answers]);
+    write_reply(replies, at, told.number, &others, &room[..answers])
 }
 
-// Names the outcome of the sheet with a number with memory that was filled, and prints the reply.
-fn print_outcome(text: &[u8], number: u32, room: &mut [u32], workspace: &mut [u32])
-    requires { ⌜ (length (now room) ≤ 1000) × FilledFrom 0 (now room) × FilledFrom 0 (now workspace) ⌝ }
+// Names the outcome of the sheet with a number with memory that was filled, and writes the reply.
+fn write_outcome(
+    text: &[u8],
+    number: u32,
+    room: &mut [u32],
+    workspace: &mut [u32],
+    replies: &mut [u8],
+    at: usize,
+) -> usize
+    requires filled { ⌜ (length (now room) ≤ 1000) × FilledFrom 0 (now room) × FilledFrom 0 (now workspace) ⌝ }
+    requires place { ⌜ at + 11077 ≤ length (now replies) ⌝ }
+    ensures { λ r. ⌜ Wrote (outcomeLine (length (now (workspace .entry))) (now (text .entry)) number (length (now (room .entry)))) (now (replies .entry)) at (now (replies .exit)) r ⌝ }
 {
     let named = outcome(text, number, room, workspace);
     let verdict = named.verdict;
     let told = tell(verdict);
     let cells = named.cells;
-    if !workspace_right(workspace) {
-        say_memory();
-        return;
-    }
-    if !room_right(room, told.number, cells) {
-        say_memory();
-        return;
+    if !lent_right(workspace, room, told.number, cells) {
+        return say_memory(replies, at);
     }
     let others = [told.line, told.cell, told.index, narrow(cells)];
-    print_reply(told.number, &others, &room[..cells]);
+    write_reply(replies, at, told.number, &others, &room[..cells])
 }
 
 // Fills the lent memory, and judges the sheet.
-fn answer_judge(text: &[u8], workspace: &mut [u32]) {
+fn answer_judge(text: &[u8], workspace: &mut [u32], replies: &mut [u8], at: usize) -> usize
+    requires { ⌜ at + 11077 ≤ length (now replies) ⌝ }
+    ensures { λ r. ⌜ Wrote (judgeLine (length (now (workspace .entry))) (now (text .entry))) (now (replies .entry)) at (now (replies .exit)) r ⌝ }
+{
     fill(workspace);
-    print_judge(text, workspace);
+    write_judge(text, workspace, replies, at)
 }
 
 // Fills the lent memory, and plays the cells.
-fn answer_play(text: &[u8], moves: &[u32], room: &mut [u32], workspace: &mut [u32])
-    requires { ⌜ length (now room) ≤ 1000 ⌝ }
+fn answer_play(
+    text: &[u8],
+    moves: &[u32],
+    room: &mut [u32],
+    workspace: &mut [u32],
+    replies: &mut [u8],
+    at: usize,
+) -> usize
+    requires { ⌜ (length (now room) ≤ 1000) × (at + 11077 ≤ length (now replies)) ⌝ }
+    ensures { λ r. ⌜ Wrote (playLine (length (now (workspace .entry))) (now (text .entry)) (now (moves .entry)) (length (now (room .entry)))) (now (replies .entry)) at (now (replies .exit)) r ⌝ }
 {
     fill(workspace);
     fill(room);
-    print_play(text, moves, room, workspace);
+    write_play(text, moves, room, workspace, replies, at)
 }
 
 // Fills the lent memory, and names the outcome.
-fn answer_outcome(text: &[u8], number: u32, room: &mut [u32], workspace: &mut [u32])
-    requires { ⌜ length (now room) ≤ 1000 ⌝ }
+fn answer_outcome(
+    text: &[u8],
+    number: u32,
+    room: &mut [u32],
+    workspace: &mut [u32],
+    replies: &mut [u8],
+    at: usize,
+) -> usize
+    requires { ⌜ (length (now room) ≤ 1000) × (at + 11077 ≤ length (now replies)) ⌝ }
+    ensures { λ r. ⌜ Wrote (outcomeLine (length (now (workspace .entry))) (now (text .entry)) number (length (now (room .entry)))) (now (replies .entry)) at (now (replies .exit)) r ⌝ }
 {
     fill(workspace);
     fill(room);
-    print_outcome(text, number, room, workspace);
+    write_outcome(text, number, room, workspace, replies, at)
 }
 
-// Answers a request whose sheet was taken, with as much memory lent as it says.
+// Answers a request about a sheet, with as much memory lent as it says, and returns the place after the reply.
 fn answer_lent(
     text: &[u8],
     request: Request,
     numbers: &[u32],
     workspace: &mut [u32],
     room: &mut [u32],
-)
-    requires { ⌜ (RequestOf (now numbers) request) × (length (now numbers) ≡ 403) × (length (now workspace) ≡ 9000) × (length (now room) ≡ 1000) ⌝ }
+    replies: &mut [u8],
+    at: usize,
+) -> usize
+    requires asked { ⌜ (RequestOf (take (request .count) (now numbers)) request) × (length (now numbers) ≡ 403) ⌝ }
+    requires lent { ⌜ (length (now workspace) ≡ 9000) × (length (now room) ≡ 1000) ⌝ }
+    requires place { ⌜ at + 11077 ≤ length (now replies) ⌝ }
+    ensures { λ r. ⌜ Wrote (replyOf request (take (request .count) (now (numbers .entry))) (now (text .entry))) (now (replies .entry)) at (now (replies .exit)) r ⌝ }
 {
     let ask = request.ask;
     let count = request.count;
     let work = request.work;
     let lent = request.room;
     match ask {
-        Ask::Judge => answer_judge(text, &mut workspace[..work]),
+        Ask::Judge => answer_judge(text, &mut workspace[..work], replies, at),
         Ask::Play => answer_play(
             text,
             &numbers[3..count],
             &mut room[..lent],
             &mut workspace[..work],
+            replies,
+            at,
         ),
-        Ask::Outcome => answer_outcome(text, numbers[3], &mut room[..lent], &mut workspace[..work]),
+        Ask::Outcome => answer_outcome(
+            text,
+            numbers[3],
+            &mut room[..lent],
+            &mut workspace[..work],
+            replies,
+            at,
+        ),
     }
+}
+
+// What came of the first request of some bytes: it was answered, with the places after the request and after the reply; or the bytes end
+// in it; or it is malformed.
+enum Answer {
+    Got { next: usize, end: usize },
+    Partial,
+    Malformed,
+}
+
+// Answers the request whose text begins at a place of the bytes.
+fn answer_whole(
+    bytes: &[u8],
+    text: usize,
+    request: Request,
+    numbers: &[u32],
+    workspace: &mut [u32],
+    room: &mut [u32],
+    replies: &mut [u8],
+    at: usize,
+) -> Answer
+    requires asked { ⌜ (WholeIn (now bytes) (now numbers) request text) × (length (now numbers) ≡ 403) ⌝ }
+    requires lent { ⌜ (length (now workspace) ≡ 9000) × (length (now room) ≡ 1000) ⌝ }
+    requires place { ⌜ at + 11077 ≤ length (now replies) ⌝ }
+    ensures { λ r. ⌜ AnswerOf (now (bytes .entry)) (now (replies .entry)) at (now (replies .exit)) r ⌝ }
+{
+    let next = text + request.bytes;
+    let end = answer_lent(
+        &bytes[text..next],
+        request,
+        numbers,
+        workspace,
+        room,
+        replies,
+        at,
+    );
+    Answer::Got { next, end }
+}
+
+// Answers the first request of the bytes.
+fn answer_first(
+    bytes: &[u8],
+    numbers: &mut [u32],
+    workspace: &mut [u32],
+    room: &mut [u32],
+    replies: &mut [u8],
+    at: usize,
+) -> Answer
+    requires lent { ⌜ (length (now numbers) ≡ 403) × (length (now workspace) ≡ 9000) × (length (now room) ≡ 1000) ⌝ }
+    requires place { ⌜ at + 11077 ≤ length (now replies) ⌝ }
+    ensures { λ r. ⌜ AnswerOf (now (bytes .entry)) (now (replies .entry)) at (now (replies .exit)) r ⌝ }
+{
+    let found = find(bytes, numbers);
+    match found {
+        Found::Partial => Answer::Partial,
+        Found::Malformed => Answer::Malformed,
+        Found::Whole { request, text } => answer_whole(
+            bytes,
+            text,
+            request,
+            numbers,
+            workspace,
+            room,
+            replies,
+            at,
+        ),
+    }
+}
+
+// Why no further request of some bytes was answered: none of them is left whole, or the next is malformed, or its reply may not fit.
+enum Ending {
+    Partial,
+    Malformed,
+    Full,
+}
+
+// How many bytes were taken by requests, how many their replies have, and why there are no more.
+struct Gathered {
+    taken: usize,
+    said: usize,
+    ending: Ending,
+}
+
+// Answers the requests of the bytes, one after another.
+fn gather(
+    bytes: &[u8],
+    numbers: &mut [u32],
+    workspace: &mut [u32],
+    room: &mut [u32],
+    replies: &mut [u8],
+) -> Gathered
+    requires { ⌜ (length (now numbers) ≡ 403) × (length (now workspace) ≡ 9000) × (length (now room) ≡ 1000) ⌝ }
+    ensures { λ r. ⌜ GatheredFrom (now (bytes .entry)) (now (replies .exit)) r ⌝ }
+{
+    let mut taken = 0;
+    let mut said = 0;
+    while MOST_REPLY <= replies.len() - said {
+        let answer = answer_first(&bytes[taken..], numbers, workspace, room, replies, said);
+        match answer {
+            Answer::Partial => {
+                return Gathered {
+                    taken,
+                    said,
+                    ending: Ending::Partial,
+                };
+            }
+            Answer::Malformed => {
+                return Gathered {
+                    taken,
+                    said,
+                    ending: Ending::Malformed,
+                };
+            }
+            Answer::Got { next, end } => {
+                taken += next;
+                said = end;
+            }
+        }
+    }
+    Gathered {
+        taken,
+        said,
+        ending: Ending::Full,
+    }
+}
+
+// The bytes of the buffer that were read and not yet taken: from start up to end.
+struct Window {
+    start: usize,
+    end: usize,
 }
 
 // Whether requests go on, and with which window.
@@ -604,111 +694,128 @@ enum Answered {
     Last,
 }
 
-// Answers a request whose sheet is at the front of the window.
-fn answer_text(
-    buffer: &mut [u8],
-    window: Window,
-    request: Request,
-    numbers: &[u32],
-    workspace: &mut [u32],
-    room: &mut [u32],
-) -> Answered
-    requires text { ⌜ TextOf (request .bytes) (now buffer) window ⌝ }
-    requires asked { ⌜ (RequestOf (now numbers) request) × (length (now numbers) ≡ 403) ⌝ }
-    requires lent { ⌜ (length (now workspace) ≡ 9000) × (length (now room) ≡ 1000) ⌝ }
-    ensures { λ r. ⌜ AnsweredWithin (now (buffer .exit)) r ⌝ }
+// Moves the bytes of the window to the front of the buffer.
+fn to_front(buffer: &mut [u8], window: Window) -> Window
+    requires { ⌜ Within (now buffer) window ⌝ }
+    ensures { λ r. ⌜ Within (now (buffer .exit)) r ⌝ }
 {
     let start = window.start;
-    let next = start + request.bytes;
-    answer_lent(&buffer[start..next], request, numbers, workspace, room);
+    let left = window.end - start;
+    let mut i = 0;
+    while i < left {
+        buffer[i] = buffer[start + i];
+        i += 1;
+    }
+    Window {
+        start: 0,
+        end: left,
+    }
+}
+
+// The window, moved to the front where the buffer has no place behind it, or where it is empty.
+fn placed(buffer: &mut [u8], window: Window) -> Window
+    requires { ⌜ Within (now buffer) window ⌝ }
+    ensures { λ r. ⌜ Within (now (buffer .exit)) r ⌝ }
+{
+    if window.start == window.end {
+        return Window { start: 0, end: 0 };
+    }
+    if window.end < buffer.len() {
+        return window;
+    }
+    to_front(buffer, window)
+}
+
+// Reads from standard input into the buffer once, and returns how many bytes came.
+fn refill(buffer: &mut [u8]) -> usize
+    ensures { λ r. ⌜ r ≤ length (now (buffer .exit)) ⌝ }
+{
+    let got = libc::read(STDIN_FILENO, buffer);
+    io::count(got, buffer)
+}
+
+// What the end of the input comes to: a request in which it ends is malformed.
+fn say_end(window: Window) {
+    if window.start < window.end {
+        say_request();
+    }
+}
+
+// Reads more of the input behind the window.
+fn read_on(buffer: &mut [u8], window: Window) -> Answered
+    requires { ⌜ Within (now buffer) window ⌝ }
+    ensures { λ r. ⌜ AnsweredWithin (now (buffer .exit)) r ⌝ }
+{
+    let ready = placed(buffer, window);
+    let start = ready.start;
+    let end = ready.end;
+    let got = refill(&mut buffer[end..]);
+    if got == 0 {
+        say_end(ready);
+        return Answered::Last;
+    }
     Answered::On {
         window: Window {
-            start: next,
-            end: window.end,
+            start,
+            end: end + got,
         },
     }
 }
 
-// Takes the sheet of a request, and answers it.
-fn answer_request(
-    buffer: &mut [u8],
-    window: Window,
-    request: Request,
-    numbers: &[u32],
-    workspace: &mut [u32],
-    room: &mut [u32],
-) -> Answered
-    requires within { ⌜ (Within (now buffer) window) × (65536 ≤ length (now buffer)) ⌝ }
-    requires asked { ⌜ (RequestOf (now numbers) request) × (length (now numbers) ≡ 403) ⌝ }
-    requires lent { ⌜ (length (now workspace) ≡ 9000) × (length (now room) ≡ 1000) ⌝ }
-    ensures { λ r. ⌜ AnsweredWithin (now (buffer .exit)) r ⌝ }
-{
-    let bytes = request.bytes;
-    let ready = placed(buffer, window, bytes);
-    let Text::Got { window: rest } = take_text(buffer, ready, bytes) else {
-        say_request();
-        return Answered::Last;
-    };
-    answer_text(buffer, rest, request, numbers, workspace, room)
-}
-
-// Answers the request that has the line.
-fn answer_line(
-    buffer: &mut [u8],
-    window: Window,
-    line: &[u8],
-    workspace: &mut [u32],
-    room: &mut [u32],
-) -> Answered
-    requires within { ⌜ (Within (now buffer) window) × (65536 ≤ length (now buffer)) ⌝ }
-    requires lent { ⌜ (length (now workspace) ≡ 9000) × (length (now room) ≡ 1000) ⌝ }
-    ensures { λ r. ⌜ AnsweredWithin (now (buffer .exit)) r ⌝ }
-{
-    let mut numbers = [0u32; 403];
-    let RequestRead::Got { request } = read_request(line, &mut numbers) else {
-        say_request();
-        return Answered::Last;
-    };
-    answer_request(buffer, window, request, &numbers, workspace, room)
-}
-
-// Takes the next line of the input, and answers the request that has it.
+// Answers the requests of the window and prints their replies, before more is read.
 fn answer_next(
     buffer: &mut [u8],
     window: Window,
-    line: &mut [u8],
+    numbers: &mut [u32],
     workspace: &mut [u32],
     room: &mut [u32],
+    replies: &mut [u8],
 ) -> Answered
-    requires within { ⌜ (Within (now buffer) window) × (65536 ≤ length (now buffer)) ⌝ }
-    requires lent { ⌜ (length (now workspace) ≡ 9000) × (length (now room) ≡ 1000) ⌝ }
+    requires within { ⌜ Within (now buffer) window ⌝ }
+    requires lent { ⌜ (length (now numbers) ≡ 403) × (length (now workspace) ≡ 9000) × (length (now room) ≡ 1000) ⌝ }
     ensures { λ r. ⌜ AnsweredWithin (now (buffer .exit)) r ⌝ }
 {
-    let taken = take_line(buffer, window, line);
-    match taken {
-        Line::End => Answered::Last,
-        Line::Malformed => {
+    let start = window.start;
+    let end = window.end;
+    let gathered = gather(&buffer[start..end], numbers, workspace, room, replies);
+    print(replies, gathered.said);
+    let rest = Window {
+        start: start + gathered.taken,
+        end,
+    };
+    let ending = gathered.ending;
+    match ending {
+        Ending::Partial => read_on(buffer, rest),
+        Ending::Malformed => {
             say_request();
             Answered::Last
         }
-        Line::Got {
-            length,
-            window: rest,
-        } => answer_line(buffer, rest, &line[..length], workspace, room),
+        Ending::Full => Answered::On { window: rest },
     }
 }
 
 // Answers requests until the input ends or one is malformed. A proved loop has to end, so it counts its turns down from a number that no
 // run uses up.
-fn answer_all(buffer: &mut [u8], line: &mut [u8], workspace: &mut [u32], room: &mut [u32])
-    requires long { ⌜ 65536 ≤ length (now buffer) ⌝ }
-    requires lent { ⌜ (length (now workspace) ≡ 9000) × (length (now room) ≡ 1000) ⌝ }
+fn answer_all(
+    buffer: &mut [u8],
+    numbers: &mut [u32],
+    workspace: &mut [u32],
+    room: &mut [u32],
+    replies: &mut [u8],
+)
+    requires { ⌜ (length (now numbers) ≡ 403) × (length (now workspace) ≡ 9000) × (length (now room) ≡ 1000) ⌝ }
 {
     let mut window = Window { start: 0, end: 0 };
     let mut turns = u64::MAX;
     while turns > 0 {
-        let Answered::On { window: rest } = answer_next(buffer, window, line, workspace, room)
-        else {
+        let Answered::On { window: rest } = answer_next(
+            buffer,
+            window,
+            numbers,
+            workspace,
+            room,
+            replies,
+        ) else {
             return;
         };
         window = rest;
@@ -716,11 +823,19 @@ fn answer_all(buffer: &mut [u8], line: &mut [u8], workspace: &mut [u32], room: &
     }
 }
 
-// Answers the requests of standard input by way of a buffer for two sheets, with places for a line and for the memory that is lent.
+// Answers the requests of standard input by way of a buffer for two sheets, with places for a request's numbers, for the memory that is
+// lent, and for replies.
 fn main() {
     let mut buffer = [0u8; 131072];
-    let mut line = [0u8; 4500];
+    let mut numbers = [0u32; 403];
     let mut workspace = [0u32; 9000];
     let mut room = [0u32; 1000];
-    answer_all(&mut buffer, &mut line, &mut workspace, &mut room);
+    let mut replies = [0u8; 32768];
+    answer_all(
+        &mut buffer,
+        &mut numbers,
+        &mut workspace,
+        &mut room,
+        &mut replies,
+    );
 }

@@ -5,7 +5,7 @@ use mathlib.Core.List.{[], _∷_, _++_}
 use mathlib.Core.Logic.{⊎-elim}
 use native.Mathlib.Nat.{eq-zero-or-pos, pow-suc}
 use native.Mathlib.Omega.{arith}
-use lib.ListN.{length, length-append}
+use lib.ListN.{length, getD, length-append}
 use Rattle.rules.specs.Text.{Bytes}
 use Rattle.report.specs.Decimal.{leading, decimal}
 
@@ -60,3 +60,48 @@ decimal-short (suc k) n h =
       decimal-short k (n / 10) (omega (arith, pow-suc 10 (suc k))),
     )))
     (eq-zero-or-pos (n / 10))
+
+-- every byte of a text, or number of a list, has the property
+pub record Every (P : ℕ → Type 0) (t : Bytes) : Type 0 where
+  pub each : (j : ℕ) → j < length t → P (getD t j 0)
+
+module _ {P : ℕ → Type 0} where
+  -- no byte
+  pub every-none : Every P []
+  every-none = record { each = λ j h. absurd (omega arith) }
+
+  -- a byte more in front
+  pub every-more : {b : ℕ} {t : Bytes} → P b → Every P t → Every P (b ∷ t)
+  every-more {b} {t} p q = record { each = go }
+    where
+      go : (j : ℕ) → j < length (b ∷ t) → P (getD (b ∷ t) j 0)
+      go zero h = p
+      go (suc j) h = q .each j (omega arith)
+
+  -- a byte less in front
+  pub every-tail : {b : ℕ} {t : Bytes} → Every P (b ∷ t) → Every P t
+  every-tail p = record { each = λ j h. p .each (suc j) (omega arith) }
+
+  -- two such texts, one after the other
+  pub every-append : (a b : Bytes) → Every P a → Every P b → Every P (a ++ b)
+  every-append [] b p q = q
+  every-append (x ∷ a) b p q = every-more (p .each 0 (omega arith)) (every-append a b (every-tail p) q)
+
+-- a property that follows from the other
+pub every-so : {P Q : ℕ → Type 0} {t : Bytes} → ((b : ℕ) → P b → Q b) → Every P t → Every Q t
+every-so {t = t} f p = record { each = λ j h. f (getD t j 0) (p .each j h) }
+
+-- a byte that is a digit
+pub record Digit (b : ℕ) : Type 0 where
+  pub least : 48 ≤ b
+  pub most : b ≤ 57
+
+-- every byte of a number in decimal is a digit
+pub decimal-digits : (n : ℕ) → Every Digit (decimal n)
+decimal-digits =
+    by-tens (λ n. Every Digit (decimal n))
+    (λ n h. rw (decimal-low n h) (one n h))
+    (λ n h ih. rw (decimal-high n h) (every-append (decimal (n / 10)) ((48 + n % 10) ∷ []) ih (one (n % 10) (omega arith))))
+  where
+    one : (d : ℕ) → d < 10 → Every Digit ((48 + d) ∷ [])
+    one d h = every-more (record { least = omega arith; most = omega arith }) every-none

@@ -1,23 +1,42 @@
 -- Lines of numbers, and how the code writes them into a room, one number after another.
 use mathlib.Core.Path.{_≡_, refl, sym, ap, _∙_}
-use Prim.Native.Nat.{ℕ, _+_, _*_, _<_, _≤_}
+use Prim.Native.Nat.{ℕ, _+_, _*_, _^_, _<_, _≤_}
 use mathlib.Core.List.{List, [], _∷_, _++_, append-assoc, append-nil}
 use native.Mathlib.Numerals.{add-one}
 use native.Mathlib.Omega.{arith}
-use lib.ListN.{length, getD, take}
+use lib.ListN.{length, getD, take, length-append}
 use lib.Seq.{append-snoc, take-suc, take-all}
 use Rattle.rules.specs.Text.{Bytes}
 use Rattle.rules.specs.declared.Told.{Told}
 use Rattle.report.specs.Decimal.{decimal}
 use Rattle.report.specs.Line.{fields, lineOf, reportLine}
-use Rattle.report.specs.Writing.{Wrote, WroteWithin, Printed}
-use Rattle.report.proofs.Writing.{wrote-none, wrote-length, wrote-then, printed}
+use Rattle.report.specs.Writing.{Wrote, WroteWithin}
+use Rattle.report.proofs.Decimal.{Every, every-none, every-more, every-tail, every-append, every-so, Digit, decimal-digits, decimal-short}
+use Rattle.report.proofs.Writing.{wrote-none, wrote-length, wrote-then}
 
 -- the numbers of two lists stand one list after the other
 pub fields-append : (a b : List ℕ) → fields (a ++ b) ≡ fields a ++ fields b
 unfolding fields
 fields-append [] b = refl
 fields-append (n ∷ a) b = rw (fields-append a b) (ap (λ (t : Bytes). 9 ∷ t) (sym (append-assoc (decimal n) (fields a) (fields b))))
+
+-- every byte of them has a property that the tab and the digits have
+pub fields-every : {P : ℕ → Type 0} → P 9 → ((b : ℕ) → Digit b → P b) → (ns : List ℕ) → Every P (fields ns)
+unfolding fields
+fields-every p q [] = every-none
+fields-every p q (n ∷ ns) = every-more p (every-append (decimal n) (fields ns) (every-so q (decimal-digits n)) (fields-every p q ns))
+
+-- numbers of 32 bits take eleven bytes each at most
+pub fields-short : (ns : List ℕ) → Every (λ (n : ℕ). n < 2 ^ 32) ns → length (fields ns) ≤ 11 * length ns
+unfolding fields
+fields-short [] p = omega arith
+fields-short (n ∷ ns) p =
+    omega (
+      arith,
+      length-append (decimal n) (fields ns),
+      decimal-short 9 n (omega (arith, p .each 0 (omega arith))),
+      fields-short ns (every-tail p),
+    )
 
 fields-more : (ns : List ℕ) (i : ℕ) → i < length ns → fields (take (i + 1) ns) ≡ fields (take i ns) ++ 9 ∷ [] ++ decimal (getD ns i 0)
 unfolding fields
@@ -56,15 +75,15 @@ unfolding lineOf
 line-parts n a b = rw (fields-append a b, ← append-assoc)
 
 -- a line is its first number, the others and a line feed
-pub line-printed : (n : ℕ) (ns : List ℕ) {most : ℕ} {room room₁ : List ℕ} {e₁ : ℕ} {room₂ : List ℕ} {e₂ : ℕ} {room₃ : List ℕ} {e₃ : ℕ}
-    → WroteWithin 10 (decimal n) room 0 room₁ e₁ → WroteWithin most (fields ns) room₁ e₁ room₂ e₂ → Wrote (10 ∷ []) room₂ e₂ room₃ e₃
-    → Printed (lineOf n ns) room room₃ e₃
+pub wrote-line : (n : ℕ) (ns : List ℕ) {most : ℕ} {room : List ℕ} {at : ℕ} {room₁ : List ℕ} {e₁ : ℕ} {room₂ : List ℕ} {e₂ : ℕ} {room₃ : List ℕ} {e₃ : ℕ}
+    → WroteWithin 10 (decimal n) room at room₁ e₁ → WroteWithin most (fields ns) room₁ e₁ room₂ e₂ → Wrote (10 ∷ []) room₂ e₂ room₃ e₃
+    → Wrote (lineOf n ns) room at room₃ e₃
 unfolding lineOf
-line-printed n ns v w u = printed (wrote-then (wrote-then (v .wrote) (w .wrote)) u)
+wrote-line n ns v w u = wrote-then (wrote-then (v .wrote) (w .wrote)) u
 
 -- the judging program's line is that of what is told
-pub report-printed : {t s : Told} {room room′ : List ℕ} {n : ℕ} → t ≡ s
-    → Printed (lineOf (t .number) (t .line ∷ t .cell ∷ t .index ∷ t .moves ∷ t .waits ∷ t .outcomes ∷ [])) room room′ n
-    → Printed (reportLine s) room room′ n
+pub wrote-report : {t s : Told} {room : List ℕ} {at : ℕ} {room′ : List ℕ} {n : ℕ} → t ≡ s
+    → Wrote (lineOf (t .number) (t .line ∷ t .cell ∷ t .index ∷ t .moves ∷ t .waits ∷ t .outcomes ∷ [])) room at room′ n
+    → Wrote (reportLine s) room at room′ n
 unfolding reportLine
-report-printed e p = rw (← e) p
+wrote-report e p = rw (← e) p

@@ -1,43 +1,28 @@
 -- What is printed is read back: rules' reader of a number reads the decimal of n as n, up to its end.
-use mathlib.Core.Path.{_≡_, refl}
-use Prim.Native.Nat.{ℕ, _+_, _*_, _-_, _/_, _%_, _<_}
+use mathlib.Core.Path.{_≡_, refl, sym, ap, _∙_}
+use Prim.Native.Nat.{ℕ, zero, suc, _+_, _*_, _-_, _/_, _%_, _<_, _≤_}
 use mathlib.Core.Bool.{Bool, true, false}
-use mathlib.Core.List.{[], _∷_, _++_, append-assoc, append-nil}
+use mathlib.Core.List.{[], _∷_, _++_, append-nil}
 use mathlib.Core.Option.{some}
 use mathlib.Core.Logic.{⊎-elim}
 use native.Mathlib.Nat.{eq-zero-or-pos}
 use native.Mathlib.Omega.{arith}
 use lib.Dec.{eqb}
+use lib.ListN.{take}
+use lib.Seq.{take-nil}
 use borrow.Author.Tests.{le-leb, ne-eqb}
 use Rattle.rules.specs.Text.{Bytes, isDigit, digits, afterDigits, spelled, wellSpelled, number}
 use Rattle.report.specs.Decimal.{decimal}
-use Rattle.report.proofs.Decimal.{decimal-low, decimal-high, by-tens}
+use Rattle.report.proofs.Decimal.{decimal-low, decimal-high, by-tens, Every, every-tail, Digit, decimal-digits}
 
--- a text of digits: where more text follows, it is passed over whole
-record AllDigits (ds : Bytes) : Type 0 where
-  run : (t : Bytes) → digits (ds ++ t) ≡ ds ++ digits t
-  after : (t : Bytes) → afterDigits (ds ++ t) ≡ afterDigits t
-
-one-digit : (d : ℕ) → d < 10 → AllDigits ((48 + d) ∷ [])
+-- digits are passed over whole, whatever text follows them
+passed : (ds t : Bytes) → Every Digit ds → (digits (ds ++ t) ≡ ds ++ digits t) × (afterDigits (ds ++ t) ≡ afterDigits t)
 unfolding digits afterDigits isDigit
-one-digit d h =
-    record {
-      run = λ t. rw (le-leb 48 (48 + d) (omega arith), le-leb (48 + d) 57 (omega arith));
-      after = λ t. rw (le-leb 48 (48 + d) (omega arith), le-leb (48 + d) 57 (omega arith));
-    }
-
-more-digits : (a b : Bytes) → AllDigits a → AllDigits b → AllDigits (a ++ b)
-more-digits a b p q =
-    record {
-      run = λ t. rw (append-assoc, p .run, q .run, append-assoc);
-      after = λ t. rw (append-assoc, p .after, q .after);
-    }
-
-all-digits : (n : ℕ) → AllDigits (decimal n)
-all-digits =
-    by-tens (λ n. AllDigits (decimal n))
-    (λ n h. rw (decimal-low n h) (one-digit n h))
-    (λ n h ih. rw (decimal-high n h) (more-digits (decimal (n / 10)) ((48 + n % 10) ∷ []) ih (one-digit (n % 10) (omega arith))))
+passed [] t p = (refl, refl)
+passed (d ∷ ds) t p =
+    let e = p .each 0 (omega arith) in
+    let r = passed ds t (every-tail p) in
+    rw (le-leb 48 d (e .least), le-leb d 57 (e .most)) (ap (λ (l : Bytes). d ∷ l) (r .0), r .1)
 
 spelled-last : (m : ℕ) (ds : Bytes) (d : ℕ) → spelled m (ds ++ d ∷ []) ≡ spelled m ds * 10 + (d - 48)
 unfolding spelled
@@ -51,6 +36,17 @@ decimal-spells =
     by-tens (λ n. spelled 0 (decimal n) ≡ n)
     (λ n h. rw (decimal-low n h) (omega arith))
     (λ n h ih. rw (decimal-high n h, spelled-last 0 (decimal (n / 10)) (48 + n % 10), ih) (omega arith))
+
+-- a number has one spelling
+pub decimal-one : {m n : ℕ} → decimal m ≡ decimal n → m ≡ n
+decimal-one {m} {n} e = sym (decimal-spells m) ∙ ap (spelled 0) e ∙ decimal-spells n
+
+-- the beginning of a text spells no more than the whole
+pub spelled-take : (m i : ℕ) (t : Bytes) → spelled m (take i t) ≤ spelled m t
+unfolding spelled
+spelled-take m i [] = rw take-nil (omega arith)
+spelled-take m zero (d ∷ t) = omega (arith, spelled-take (m * 10 + (d - 48)) zero t)
+spelled-take m (suc i) (d ∷ t) = spelled-take (m * 10 + (d - 48)) i t
 
 -- a text that begins with another digit than 0
 record Starts (t : Bytes) : Type 0 where
@@ -95,4 +91,5 @@ no-digits (b ∷ t) e = go (isDigit b) refl
 pub read-back : (n : ℕ) (rest : Bytes) → digits rest ≡ [] → number (decimal n ++ rest) ≡ some (n, rest)
 unfolding number
 read-back n rest e =
-    rw (all-digits n .run rest, all-digits n .after rest, e, no-digits rest e, append-nil (decimal n), decimal-well n, decimal-spells n)
+    let p = passed (decimal n) rest (decimal-digits n) in
+    rw (p .0, p .1, e, no-digits rest e, append-nil (decimal n), decimal-well n, decimal-spells n)

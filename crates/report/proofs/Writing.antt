@@ -3,12 +3,12 @@ use mathlib.Core.Path.{_≡_, refl, sym, ap, _∙_}
 use Prim.Native.Nat.{ℕ, _+_, _<_, _≤_}
 use mathlib.Core.List.{[], _∷_, _++_, append-assoc, append-nil}
 use native.Mathlib.Numerals.{add-one}
-use native.Mathlib.Nat.{add-zero, zero-add}
+use native.Mathlib.Nat.{add-zero}
 use native.Mathlib.Omega.{arith}
 use lib.ListN.{length, take, drop, set, length-append, length-take, length-drop, take-append-drop}
 use lib.Seq.{set-split, append-snoc, take-at, drop-at, drop-drop}
 use Rattle.rules.specs.Text.{Bytes}
-use Rattle.report.specs.Writing.{Wrote, Printed}
+use Rattle.report.specs.Writing.{Wrote}
 
 -- nothing is written
 pub wrote-none : (room : Bytes) (at : ℕ) → at ≤ length room → Wrote [] room at room at
@@ -47,9 +47,3 @@ wrote-then {a} {b} {room} {at} {room₁} {e₁} {room₂} {e₂} p q =
       ends = q .ends ∙ sym sum;
       pasted = rw (sum, q .pasted, before, after) (simp append-assoc);
     }
-
--- what is written from the first place on
-pub printed : {text room room′ : Bytes} {n : ℕ} → Wrote text room 0 room′ n → Printed text room room′ n
-printed {text} {room} w =
-    let e = zero-add (length text) in
-    record { size = w .ends ∙ e; fits = omega (arith, w .fits); written = w .pasted ∙ ap (λ (i : ℕ). text ++ drop i room) e }

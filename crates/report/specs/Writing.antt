@@ -15,9 +15,3 @@ pub record Wrote (text room : Bytes) (at : ℕ) (room′ : Bytes) (end : ℕ) : 
 pub record WroteWithin (most : ℕ) (text room : Bytes) (at : ℕ) (room′ : Bytes) (end : ℕ) : Type 0 where
   pub wrote : Wrote text room at room′ end
   pub short : end ≤ at + most
-
--- the text stands in the first bytes of the room, the rest is as it was, and n is the text's length
-pub record Printed (text room room′ : Bytes) (n : ℕ) : Type 0 where
-  pub size : n ≡ length text
-  pub fits : length text ≤ length room
-  pub written : room′ ≡ text ++ drop (length text) room

@@ -3,10 +3,11 @@ ghost use mathlib.Core.Path.{_≡_};
 ghost use Prim.Native.Nat.{_+_, _*_, _<_, _≤_};
 ghost use mathlib.Core.List.{[], _∷_};
 ghost use lib.ListN.{length};
+ghost use Rattle.rules.specs.Words.{oneIf};
 ghost use Rattle.rules.specs.Verdict.{told, toldAs};
 ghost use Rattle.report.specs.Decimal.{decimal};
 ghost use Rattle.report.specs.Line.{fields, lineOf, reportLine};
-ghost use Rattle.report.specs.Writing.{Wrote, WroteWithin, Printed};
+ghost use Rattle.report.specs.Writing.{Wrote, WroteWithin};
 use rules::Told;
 use rules::Verdict;
 
@@ -65,6 +66,13 @@ pub fn tell(v: Verdict) -> Told
     }
 }
 
+// 1 where it holds, else 0.
+pub fn one_if(holds: bool) -> u32
+    ensures { λ r. ⌜ r ≡ oneIf holds ⌝ }
+{
+    if holds { 1 } else { 0 }
+}
+
 // The byte of a digit.
 fn digit(d: u32) -> u8
     requires { ⌜ d < 10 ⌝ }
@@ -107,20 +115,20 @@ pub fn write_fields(room: &mut [u8], at: usize, numbers: &[u32]) -> usize
     end
 }
 
-// Writes a line of numbers into the first bytes of the room, and returns its length.
-pub fn write_line(room: &mut [u8], first: u32, others: &[u32]) -> usize
-    requires { ⌜ 11 * length (now others) + 11 ≤ length (now room) ⌝ }
-    ensures { λ r. ⌜ Printed (lineOf first (now (others .entry))) (now (room .entry)) (now (room .exit)) r ⌝ }
+// Writes a line of numbers, and returns the place after it.
+pub fn write_line(room: &mut [u8], at: usize, first: u32, others: &[u32]) -> usize
+    requires { ⌜ at + 11 * length (now others) + 11 ≤ length (now room) ⌝ }
+    ensures { λ r. ⌜ Wrote (lineOf first (now (others .entry))) (now (room .entry)) at (now (room .exit)) r ⌝ }
 {
-    let at = write_number(room, 0, first);
-    let last = write_fields(room, at, others);
+    let after = write_number(room, at, first);
+    let last = write_fields(room, after, others);
     write_byte(room, last, b'\n')
 }
 
-// Writes the line that the judging program prints of a verdict, and returns its length.
-pub fn report(room: &mut [u8], v: Verdict) -> usize
-    requires { ⌜ 77 ≤ length (now room) ⌝ }
-    ensures { λ r. ⌜ Printed (reportLine (told v)) (now (room .entry)) (now (room .exit)) r ⌝ }
+// Writes the line that the judging program prints of a verdict, and returns the place after it.
+pub fn report(room: &mut [u8], at: usize, v: Verdict) -> usize
+    requires { ⌜ at + 77 ≤ length (now room) ⌝ }
+    ensures { λ r. ⌜ Wrote (reportLine (told v)) (now (room .entry)) at (now (room .exit)) r ⌝ }
 {
     let told = tell(v);
     let others = [
@@ -131,5 +139,5 @@ pub fn report(room: &mut [u8], v: Verdict) -> usize
         told.waits,
         told.outcomes,
     ];
-    write_line(room, told.number, &others)
+    write_line(room, at, told.number, &others)
 }

@@ -13,3 +13,4 @@ pub mod Answering
 pub mod EachOutcome
 pub mod Cover
 pub mod OneReply
+pub mod Small

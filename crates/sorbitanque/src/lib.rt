@@ -1,19 +1,11 @@
 // sorbitanque: the three entries for programs in other languages, on numbers and slices. Each puts the numbers of its reply into
 // seven places that are lent. It sees rules, sheet and report.
-ghost use mathlib.Core.Path.{_≡_};
-ghost use Rattle.rules.specs.Words.{oneIf};
 ghost use Rattle.sorbitanque.specs.Details.{JudgeTold, OutcomeTold, PlayTold};
+use report::one_if;
 use report::tell;
 use sheet::judge;
 use sheet::outcome;
 use sheet::play;
-
-// 1 where it holds, else 0.
-fn one_if(holds: bool) -> u32
-    ensures { λ r. ⌜ r ≡ oneIf holds ⌝ }
-{
-    if holds { 1 } else { 0 }
-}
 
 // Judges a sheet: verdict, line, cell, index, moves, waits, outcomes.
 #[no_mangle]

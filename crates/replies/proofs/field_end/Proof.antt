@@ -1,12 +1,13 @@
--- `field_end` meets its contract: the search stops at a tab or at the end.
-use Prim.Native.Nat.{_≤_, _-_}
+-- `field_end` meets its contract: the search stops at a tab or at the end, and passed no tab.
+use Prim.Native.Nat.{_-_}
 use native.Mathlib.Omega.{arith}
 use lib.ListN.{length}
+use Rattle.replies.proofs.Fields.{Passed, passed-none, passed-more, passed-all}
 use Rattle.replies.proofs.field_end.Statement.{statement}
 use Rattle.replies.proofs.field_end.Tie as tie
 
 abbrev Inv-loop : tie.InvT-loop
-Inv-loop line begin end₀ end = (begin ≤ end) × (end ≤ length line)
+Inv-loop line begin end₀ end = Passed line begin end
 
 abbrev μ-loop : tie.MeasureT-loop
 μ-loop line begin end₀ end = length line - end
@@ -17,10 +18,10 @@ field-end-spec =
     (tie.spec
     Inv-loop
     μ-loop
-    (λ c. (omega arith, omega arith))
+    (λ c. passed-none (omega arith))
     (λ c. omega arith)
-    (λ c. record { on = omega arith; inside = omega arith; stops = λ _. c .if1 .taken })
+    (λ c. passed-all (c .before .before .before .loop .inv) (λ _. c .if1 .taken))
     (λ c. omega arith)
     (λ c. omega arith)
-    (λ c. (omega arith, omega arith))
-    (λ c. record { on = omega arith; inside = omega arith; stops = λ h. absurd (omega arith) }))
+    (λ c. passed-more (c .before .before .before .loop .inv) (omega arith) (c .if1 .left))
+    (λ c. passed-all (c .before .loop .inv) (λ h. absurd (omega arith))))

@@ -3,7 +3,7 @@ use Prim.Native.Nat.{_-_}
 use native.Mathlib.Omega.{arith}
 use lib.ListN.{length}
 use borrow.Author.Needs.{needs}
-use Rattle.replies.proofs.Fields.{got-number, Listing, listing-none, listing-more, listing-all}
+use Rattle.replies.proofs.Listing.{Listing, listing-none, listing-more, listing-all, refused-more, refused-field}
 use Rattle.replies.proofs.read_numbers.Statement.{statement}
 use Rattle.replies.proofs.read_numbers.Tie as tie
 
@@ -21,7 +21,7 @@ read-numbers-spec =
     μ-loop
     (λ c. listing-none (c .before .before .pre .0) (c .before .before .pre .1))
     (λ c. omega arith)
-    (λ c. tt)
+    (λ c. refused-more (c .before .before .loop .inv) (c .before .loop-test .taken) (c .if1 .taken))
     (λ c. omega arith)
     (λ c κs. omega arith)
     (λ c. omega arith)
@@ -31,7 +31,11 @@ read-numbers-spec =
     (λ c. search needs)
     (λ c. search needs)
     (λ c. omega arith)
-    (λ c. tt)
+    (λ c.
+    let found = c .before .before in
+    let looping = found .before .before .before .before in
+    refused-field (looping .before .loop .inv) (looping .loop-test .taken) (found .before .before .field-end .ensures)
+    (rw (c .enum-told .given .1) at (found .number .ensures)))
     (λ c. omega arith)
     (λ c. omega arith)
     (λ c. omega arith)
@@ -40,6 +44,6 @@ read-numbers-spec =
     let found = c .before .before .before in
     let looping = found .before .before .before .before in
     listing-more _ (looping .before .loop .inv) (looping .loop-test .taken) (found .before .before .before .if1 .left) (found .before .before .field-end .ensures)
-    (got-number (found .number .ensures) (c .before .value .given .1)))
+    (rw (c .before .value .given .1) at (found .number .ensures)))
     (λ c. omega arith)
     (λ c. search listing-all))

@@ -1,7 +1,8 @@
 -- `right_count` meets its contract: each kind tests the number of numbers.
+use mathlib.Core.Path.{sym}
 use borrow.Author.Needs.{needs}
-use borrow.Author.Tests.{eqb-true, leb-true}
-use Rattle.replies.proofs.Fields.{counted-as}
+use borrow.Author.Tests.{eqb-true, eq-eqb, leb-true, le-leb}
+use Rattle.replies.proofs.Reading.{counted-as}
 use Rattle.replies.proofs.right_count.Statement.{statement}
 use Rattle.replies.proofs.right_count.Tie as tie
 
@@ -12,6 +13,6 @@ right-count-spec =
     (search needs)
     (search needs)
     (search needs)
-    (λ c h. counted-as _ (c .enum-told .given .1) (eqb-true _ _ h))
-    (λ c h. counted-as _ (c .enum-told2 .given .1) (leb-true _ _ h))
-    (λ c h. counted-as _ (c .enum-told3 .given .1) (eqb-true _ _ h)))
+    (λ c. let e = c .enum-told .given .1 in (λ h. counted-as _ e (eqb-true _ _ h), λ k. eq-eqb _ _ (counted-as _ (sym e) k)))
+    (λ c. let e = c .enum-told2 .given .1 in (λ h. counted-as _ e (leb-true _ _ h), λ k. le-leb _ _ (counted-as _ (sym e) k)))
+    (λ c. let e = c .enum-told3 .given .1 in (λ h. counted-as _ e (eqb-true _ _ h), λ k. eq-eqb _ _ (counted-as _ (sym e) k))))

@@ -1,6 +1,6 @@
 -- `replies::write_reply` meets its contract: the first number, the others, those that are listed and the line feed, one after another.
 use borrow.Author.Needs.{needs}
-use Rattle.replies.proofs.Replying.{reply-printed}
+use Rattle.replies.proofs.Replying.{wrote-reply}
 use Rattle.replies.proofs.write_reply.Statement.{statement}
 use Rattle.replies.proofs.write_reply.Tie as tie
 
@@ -13,4 +13,4 @@ write-reply-spec =
     (λ c κs. search needs)
     (λ c κs. search needs)
     (λ c. search needs)
-    (λ c. search reply-printed))
+    (λ c. search wrote-reply))

@@ -1,6 +1,6 @@
 -- `report::report` meets its contract: the line of what is told of the verdict.
 use borrow.Author.Needs.{needs}
-use Rattle.report.proofs.Line.{report-printed}
+use Rattle.report.proofs.Line.{wrote-report}
 use Rattle.report.proofs.report.Statement.{statement}
 use Rattle.report.proofs.report.Tie as tie
 
@@ -12,4 +12,4 @@ report-spec =
     (λ c. search needs)
     (λ c κs. search needs)
     (λ c. search needs)
-    (λ c. search report-printed))
+    (λ c. search wrote-report))

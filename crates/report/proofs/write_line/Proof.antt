@@ -1,6 +1,6 @@
 -- `report::write_line` meets its contract: the first number, the others and the line feed, one after another.
 use borrow.Author.Needs.{needs}
-use Rattle.report.proofs.Line.{line-printed}
+use Rattle.report.proofs.Line.{wrote-line}
 use Rattle.report.proofs.write_line.Statement.{statement}
 use Rattle.report.proofs.write_line.Tie as tie
 
@@ -12,4 +12,4 @@ write-line-spec =
     (λ c κs. search needs)
     (λ c κs. search needs)
     (λ c. search needs)
-    (λ c. search line-printed))
+    (λ c. search wrote-line))

@@ -1,6 +1,7 @@
 -- `sorbitanque::sorbitanque_outcome` meets its contract: what is told of outcome's verdict, and the number of cells.
 use borrow.Author.Needs.{needs}
-use Rattle.sorbitanque.proofs.Told.{outcome-few, outcome-told}
+use Rattle.rules.proofs.Small.{outcome-few}
+use Rattle.sorbitanque.proofs.Told.{outcome-told}
 use Rattle.sorbitanque.proofs.sorbitanque_outcome.Statement.{statement}
 use Rattle.sorbitanque.proofs.sorbitanque_outcome.Tie as tie
 

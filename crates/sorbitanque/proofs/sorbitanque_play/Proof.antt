@@ -1,6 +1,7 @@
 -- `sorbitanque::sorbitanque_play` meets its contract: what is told of play's verdict, the place, the number of answers, and over.
 use borrow.Author.Needs.{needs}
-use Rattle.sorbitanque.proofs.Told.{play-few-places, play-few-answers, play-told}
+use Rattle.rules.proofs.Small.{play-few-places, play-few-answers}
+use Rattle.sorbitanque.proofs.Told.{play-told}
 use Rattle.sorbitanque.proofs.sorbitanque_play.Statement.{statement}
 use Rattle.sorbitanque.proofs.sorbitanque_play.Tie as tie
 

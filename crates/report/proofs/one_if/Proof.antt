@@ -1,10 +1,10 @@
--- `sorbitanque::one_if` meets its contract: what the test found is what is counted.
+-- `report::one_if` meets its contract: what the test found is what is counted.
 use mathlib.Core.Path.{_≡_, sym, ap}
 use mathlib.Core.Bool.{Bool, true, false}
 use Prim.Native.Nat.{ℕ}
 use Rattle.rules.specs.Words.{oneIf}
-use Rattle.sorbitanque.proofs.one_if.Statement.{statement}
-use Rattle.sorbitanque.proofs.one_if.Tie as tie
+use Rattle.report.proofs.one_if.Statement.{statement}
+use Rattle.report.proofs.one_if.Tie as tie
 
 one : (b : Bool) → b ≡ true → _≡_ {A = ℕ} 1 (oneIf b)
 unfolding oneIf

@@ -1,30 +1,32 @@
 -- The numbers of a reply fit into 32 bits: a sheet has no more waits than nodes, and an outcome no more cells than the board.
 use mathlib.Core.Path.{_≡_, refl, ap, subst, subst⁻¹, _∙_}
-use Prim.Native.Nat.{ℕ, zero, suc, _+_, _*_, _≤_}
+use Prim.Native.Nat.{ℕ, zero, suc, _+_, _*_, _<_, _≤_}
 use native.Mathlib.Omega.{arith}
 use native.Mathlib.Nat.{mul-le-mul}
 use mathlib.Core.Bool.{Bool, true, false, not}
 use mathlib.Core.List.{List, [], _∷_}
 use lib.Dec.{T, ltb}
 use lib.ListN.{length, getD, length-append}
 use Rattle.rules.specs.Sizes.{largest, mostBytes, leastWorkspace, mostNodes, mostOutcomes}
 use Rattle.rules.specs.Words.{upTo, among}
 use Rattle.rules.specs.Text.{Bytes}
 use Rattle.rules.specs.Board.{cells, isCell, listed}
 use Rattle.rules.specs.Tree.{Sheet, waitCount}
 use Rattle.rules.specs.Plain.{WellRead}
 use Rattle.rules.specs.Fair.{firstNotApart, firstNotElusive}
 use Rattle.rules.specs.Outcomes.{outcomes, outcomeCount}
 use Rattle.rules.specs.Reading.{Result, refused, got}
 use Rattle.rules.specs.Answering.{Game, start, isOver, isTaken, isEmpty, answered}
-use Rattle.rules.specs.Entries.{_>>=_, refuseIf, refuseFault, refuseUnjoined, read, fair, satisfying, accepted, step, Rounds, stopped, played, rounds, PlayReply, refusedPlay, playedOut, playOn, play, outcomeCells, named, outcome}
+use Rattle.rules.specs.Entries.{_>>=_, refuseIf, refuseFault, refuseUnjoined, read, fair, satisfying, accepted, step, Rounds, stopped, played, rounds, PlayReply, refusedPlay, playedOut, playOn, play, outcomeCells, named, outcome, PlayKept, playShown, OutcomeKept, outcomeShown}
 use Rattle.rules.specs.Promise.{Ruled, no-move, one-move}
+use Rattle.rules.specs.declared.Played.{Played}
+use Rattle.rules.specs.declared.Named.{Named}
 use Rattle.rules.specs.declared.Verdict.the-variants.{SmallWorkspace, LongText, NotApart, NotElusive, TooManyOutcomes, AfterOver, NoSuchCell, CellTaken, NoSuchOutcome, ShortRoom}
 use Rattle.rules.proofs.Tests.{both}
 use Rattle.rules.proofs.Lists.{keep-split}
 use Rattle.rules.proofs.Steps.{got-inj, then-got, refuseIf-got}
 use Rattle.rules.proofs.WellRead.{well-read}
 use Rattle.rules.proofs.Cover.{demand-3, demand-3-played}
 
 -- a sheet that was read is well read
 read-well : (w : ℕ) (t : Bytes) (s : Sheet) → read w t ≡ got s → WellRead s
@@ -61,7 +63,7 @@ fair-same s z e =
     let c = then-got (refuseIf (ltb mostOutcomes (outcomeCount s)) TooManyOutcomes) _ z (b .2) in
     got-inj (c .2)
 
-pub few-cells : (w : ℕ) (t : Bytes) (i room : ℕ) → length (outcome w t i room .cells) ≤ largest * largest
+few-cells : (w : ℕ) (t : Bytes) (i room : ℕ) → length (outcome w t i room .cells) ≤ largest * largest
 unfolding outcome outcomeCells
 few-cells w t i room =
     few-named _ λ xs e.
@@ -121,9 +123,9 @@ by-rule s g place (x ∷ xs) = go (step s g x) refl (λ h. by-rule s h (place + 
     go (got h) f ih = rw (f, rounds) (one-more s g x place h (stepped s g x h f) (rounds s h (place + 1) xs) (ih h))
 
 -- play has few rounds
-pub record FewRounds (r : PlayReply) : Type 0 where
-  pub few-places : r .place ≤ mostNodes + 1
-  pub few-answers : length (r .answers) ≤ mostNodes
+record FewRounds (r : PlayReply) : Type 0 where
+  few-places : r .place ≤ mostNodes + 1
+  few-answers : length (r .answers) ≤ mostNodes
 
 few-waits : (w : ℕ) (t : Bytes) (s : Sheet) → accepted w t ≡ got s → waitCount s ≤ mostNodes
 unfolding accepted satisfying
@@ -144,7 +146,7 @@ few-out w t s e (played h) b =
     let m = demand-3-played w t s e (b .0) h (b .1) (length (b .0)) (omega arith) .one-each in
     record { few-places = omega arith; few-answers = omega (arith, m, n, few-waits w t s e) }
 
-pub few-rounds : (w : ℕ) (t : Bytes) (xs : List ℕ) (room : ℕ) → FewRounds (play w t xs room)
+few-rounds : (w : ℕ) (t : Bytes) (xs : List ℕ) (room : ℕ) → FewRounds (play w t xs room)
 unfolding play playOn refusedPlay
 few-rounds w t xs room = go (accepted w t >>= λ s. refuseIf (ltb room (length xs)) ShortRoom >>= λ u. got s) refl
   where
@@ -155,3 +157,20 @@ few-rounds w t xs room = go (accepted w t >>= λ s. refuseIf (ltb room (length x
         let b = then-got (refuseIf (ltb room (length xs)) ShortRoom) _ s (a .2) in
         let f = subst (λ (z : Sheet). accepted w t ≡ got z) (got-inj (b .2)) (a .1) in
         few-out w t s f (rounds s (start s) 1 xs) (by-rule s (start s) 1 xs)
+
+-- so what the entries hand back does
+module _ {workspace workspace′ : List ℕ} {t : Bytes} {room room′ : List ℕ} where
+  pub outcome-few : {number : ℕ} {n : Named} → OutcomeKept workspace t number room n workspace′ room′ → n .cells < 4294967296
+  unfolding outcomeShown
+  outcome-few {number} k = omega (arith, ap (λ (z : Named). z .cells) (k .reply), few-cells (length workspace) t number (length room))
+
+  module _ {moves : List ℕ} {p : Played} (k : PlayKept workspace t moves room p workspace′ room′) where
+    pub play-few-places : p .place < 4294967296
+    unfolding playShown
+    play-few-places =
+        omega (arith, ap (λ (z : Played). z .place) (k .reply), few-rounds (length workspace) t moves (length room) .few-places)
+
+    pub play-few-answers : p .answers < 4294967296
+    unfolding playShown
+    play-few-answers =
+        omega (arith, ap (λ (z : Played). z .answers) (k .reply), few-rounds (length workspace) t moves (length room) .few-answers)
