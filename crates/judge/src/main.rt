@@ -2,10 +2,21 @@
 // outcomes. It sees sheet and report.
 ghost use Prim.Native.Nat.{_≤_};
 ghost use lib.ListN.{length};
+ghost use Rattle.report.specs.Line.{judgeLine};
+ghost use Rattle.report.specs.Writing.{Wrote};
 use libc::STDIN_FILENO;
 use libc::STDOUT_FILENO;
 use report::report;
 use sheet::judge;
+
+// Judges the sheet, writes the line that is printed of it into the first bytes of the room, and returns its length.
+fn write_judge(text: &[u8], workspace: &mut [u32], room: &mut [u8]) -> usize
+    requires { ⌜ 77 ≤ length (now room) ⌝ }
+    ensures { λ r. ⌜ Wrote (judgeLine (length (now (workspace .entry))) (now (text .entry))) (now (room .entry)) 0 (now (room .exit)) r ⌝ }
+{
+    let verdict = judge(text, workspace);
+    report(room, 0, verdict)
+}
 
 // Writes the first n bytes of the room to standard output.
 fn print(room: &[u8], n: usize)
@@ -19,8 +30,7 @@ fn main() {
     let mut text = [0u8; 32769];
     let n = io::read_full(STDIN_FILENO, &mut text);
     let mut workspace = [0u32; 8192];
-    let verdict = judge(&text[..n], &mut workspace);
     let mut room = [0u8; 77];
-    let length = report(&mut room, 0, verdict);
+    let length = write_judge(&text[..n], &mut workspace, &mut room);
     print(&room, length);
 }

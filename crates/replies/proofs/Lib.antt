@@ -6,4 +6,5 @@ pub mod Reading
 pub mod Finding
 pub mod Replying
 pub mod Answers
+pub mod Moving
 pub mod Lent

@@ -8,18 +8,17 @@ use lib.Seq.{length-take-le, getD-take, take-add, take-at, drop-at}
 use Rattle.rules.specs.Words.{oneIf}
 use Rattle.rules.specs.Text.{Bytes}
 use Rattle.rules.specs.Verdict.{told}
-use Rattle.rules.specs.Entries.{judge, play, playShown, outcome, outcomeShown, roomAfter, JudgeKept, PlayKept, OutcomeKept}
+use Rattle.rules.specs.Entries.{play, playShown, outcome, outcomeShown, roomAfter, PlayKept, OutcomeKept}
 use Rattle.rules.specs.declared.Told.{Told}
-use Rattle.rules.specs.declared.Verdict.{Verdict}
 use Rattle.rules.specs.declared.Played.{Played}
 use Rattle.rules.specs.declared.Named.{Named}
 use Rattle.report.specs.Decimal.{decimal}
-use Rattle.report.specs.Line.{fields, lineOf, reportLine}
+use Rattle.report.specs.Line.{fields, lineOf, judgeLine}
 use Rattle.report.specs.Writing.{Wrote, WroteWithin}
 use Rattle.report.proofs.Writing.{wrote-then}
 use Rattle.report.proofs.Line.{line-parts}
 use Rattle.replies.specs.Request.{Counted, RequestOf}
-use Rattle.replies.specs.Reply.{toldLine, judgeLine, playLine, outcomeLine, replyOf}
+use Rattle.replies.specs.Reply.{toldLine, playLine, outcomeLine, replyOf}
 use Rattle.replies.specs.declared.Ask.{Ask}
 use Rattle.replies.specs.declared.Ask.the-variants as Ask
 use Rattle.replies.specs.declared.Request.{Request}
@@ -43,29 +42,22 @@ listed-first : (xs room later : List ℕ) → later ≡ roomAfter xs room → ta
 unfolding roomAfter
 listed-first xs room later e = ap (take (length xs)) e ∙ take-at xs (drop (length xs) room) (length xs) refl
 
-module _ {workspace workspace′ : List ℕ} {t replies : Bytes} {at : ℕ} {replies′ : Bytes} {end : ℕ} where
-  -- judge's reply
-  pub wrote-judge : {v : Verdict} → JudgeKept workspace t v workspace′ → Wrote (reportLine (told v)) replies at replies′ end
-      → Wrote (judgeLine (length workspace) t) replies at replies′ end
-  unfolding judgeLine
-  wrote-judge k w = subst (λ (v : Verdict). Wrote (reportLine (told v)) replies at replies′ end) (k .reply) w
+module _ {workspace workspace′ : List ℕ} {t replies : Bytes} {at : ℕ} {replies′ : Bytes} {end : ℕ} {room room′ : List ℕ} where
+  -- play's reply
+  module _ {moves : List ℕ} {p : Played} (k : PlayKept workspace t moves room p workspace′ room′) where
+    pub wrote-play : {r : Told} {place answers over : ℕ} → r ≡ told (p .verdict) → place ≡ p .place → answers ≡ p .answers → over ≡ oneIf (p .over)
+        → Wrote (toldLine r ((place ∷ answers ∷ over ∷ []) ++ take (p .answers) room′)) replies at replies′ end
+        → Wrote (playLine (length workspace) t moves (length room)) replies at replies′ end
+    unfolding playLine playShown
+    wrote-play e f g h w = subst (λ (l : Bytes). Wrote l replies at replies′ end) (rw (e, f, g, h, k .reply, listed-first _ room room′ (k .answers))) w
 
-  module _ {room room′ : List ℕ} where
-    -- play's reply
-    module _ {moves : List ℕ} {p : Played} (k : PlayKept workspace t moves room p workspace′ room′) where
-      pub wrote-play : {r : Told} {place answers over : ℕ} → r ≡ told (p .verdict) → place ≡ p .place → answers ≡ p .answers → over ≡ oneIf (p .over)
-          → Wrote (toldLine r ((place ∷ answers ∷ over ∷ []) ++ take (p .answers) room′)) replies at replies′ end
-          → Wrote (playLine (length workspace) t moves (length room)) replies at replies′ end
-      unfolding playLine playShown
-      wrote-play e f g h w = subst (λ (l : Bytes). Wrote l replies at replies′ end) (rw (e, f, g, h, k .reply, listed-first _ room room′ (k .answers))) w
-
-    -- outcome's reply
-    module _ {number : ℕ} {n : Named} (k : OutcomeKept workspace t number room n workspace′ room′) where
-      pub wrote-outcome : {r : Told} {cells : ℕ} → r ≡ told (n .verdict) → cells ≡ n .cells
-          → Wrote (toldLine r ((cells ∷ []) ++ take (n .cells) room′)) replies at replies′ end
-          → Wrote (outcomeLine (length workspace) t number (length room)) replies at replies′ end
-      unfolding outcomeLine outcomeShown
-      wrote-outcome e f w = subst (λ (l : Bytes). Wrote l replies at replies′ end) (rw (e, f, k .reply, listed-first _ room room′ (k .cells))) w
+  -- outcome's reply
+  module _ {number : ℕ} {n : Named} (k : OutcomeKept workspace t number room n workspace′ room′) where
+    pub wrote-outcome : {r : Told} {cells : ℕ} → r ≡ told (n .verdict) → cells ≡ n .cells
+        → Wrote (toldLine r ((cells ∷ []) ++ take (n .cells) room′)) replies at replies′ end
+        → Wrote (outcomeLine (length workspace) t number (length room)) replies at replies′ end
+    unfolding outcomeLine outcomeShown
+    wrote-outcome e f w = subst (λ (l : Bytes). Wrote l replies at replies′ end) (rw (e, f, k .reply, listed-first _ room room′ (k .cells))) w
 
 -- memory that was filled is as long as it was
 module _ (t : Bytes) {replies : Bytes} {at : ℕ} {replies′ : Bytes} {end w w′ : ℕ} (e : w ≡ w′) where
@@ -87,7 +79,7 @@ pub play-counted : {ask : Ask} (n : ℕ) → Counted ask n → ask ≡ Ask.Play 
 play-counted n h e = rw e at h
 
 -- the numbers from place i up to place n
-later-numbers : (i n : ℕ) (l : List ℕ) → i ≤ n → n ≤ length l → drop i (take n l) ≡ take (n - i) (drop i l)
+pub later-numbers : (i n : ℕ) (l : List ℕ) → i ≤ n → n ≤ length l → drop i (take n l) ≡ take (n - i) (drop i l)
 later-numbers i n l h k =
     let sum : i + (n - i) ≡ n = omega arith in
     ap (λ (m : ℕ). drop i (take m l)) (sym sum) ∙ ap (drop i) (take-add i (n - i) l) ∙ drop-at (take i l) (take (n - i) (drop i l)) i (length-take-le i l (omega arith))

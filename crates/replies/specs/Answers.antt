@@ -37,13 +37,22 @@ pub data Answers : Bytes → Bytes → Type 0 where
   none : Answers [] []
   more : {asked said : Bytes} → Answers asked said → (s : Sent) → Answers (asked ++ sent s) (said ++ replied s)
 
+-- bytes that are the replies to some requests
+pub record Replies (said : Bytes) : Type 0 where
+  pub asked : Bytes
+  pub answers : Answers asked said
+
+-- no request lies whole at the front of the bytes
+abbrev pub NoneLies : Bytes → Type 0
+NoneLies bytes = (s : Sent) (rest : Bytes) → ¬ (bytes ≡ sent s ++ rest)
+
 -- whatever follows, the bytes do not begin with a request
 abbrev pub NoneBegins : Bytes → Type 0
 NoneBegins bytes = (s : Sent) (after rest : Bytes) → ¬ (bytes ++ after ≡ sent s ++ rest)
 
 -- no request lies whole at the front of the bytes, and they are fewer than the longest request has
 pub record NoneWhole (bytes : Bytes) : Type 0 where
-  pub none : (s : Sent) (rest : Bytes) → ¬ (bytes ≡ sent s ++ rest)
+  pub none : NoneLies bytes
   pub short : length bytes < 69974
 
 -- the first line feed is at `end`, or the bytes have none and end there, or no line of a request is so long

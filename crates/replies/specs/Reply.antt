@@ -5,19 +5,15 @@ use lib.ListN.{length, getD, drop}
 use Rattle.rules.specs.Words.{oneIf}
 use Rattle.rules.specs.Text.{Bytes}
 use Rattle.rules.specs.Verdict.{told}
-use Rattle.rules.specs.Entries.{judge, PlayReply, play, OutcomeReply, outcome}
+use Rattle.rules.specs.Entries.{PlayReply, play, OutcomeReply, outcome}
 use Rattle.rules.specs.declared.Told.{Told}
-use Rattle.report.specs.Line.{lineOf, reportLine}
+use Rattle.report.specs.Line.{lineOf, judgeLine}
 use Rattle.replies.specs.declared.Ask.the-variants as Ask
 use Rattle.replies.specs.declared.Request.{Request}
 
 -- verdict, line, cell, index, and further numbers
 abbrev pub toldLine : Told → List ℕ → Bytes
 toldLine t ns = lineOf (t .number) (t .line ∷ t .cell ∷ t .index ∷ ns)
-
--- judge: verdict, line, cell, index, moves, waits, outcomes
-unfoldable pub judgeLine : (workspace : ℕ) → Bytes → Bytes
-judgeLine w t = reportLine (told (judge w t))
 
 -- play: verdict, line, cell, index, place, answers, over, and the answers
 abbrev played : PlayReply → Bytes
@@ -33,7 +29,7 @@ named r = toldLine (told (r .verdict)) (length (r .cells) ∷ r .cells)
 unfoldable pub outcomeLine : (workspace : ℕ) → Bytes → (number room : ℕ) → Bytes
 outcomeLine w t i room = named (outcome w t i room)
 
--- the reply to a request with the numbers about the sheet's text
+-- the reply to a request with the numbers about the sheet's text; judge: verdict, line, cell, index, moves, waits, outcomes
 unfoldable pub replyOf : Request → List ℕ → Bytes → Bytes
 replyOf r ns t =
     elim (r .ask) [

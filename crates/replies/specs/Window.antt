@@ -1,16 +1,62 @@
--- The part of the buffer that was read and not yet taken lies in the buffer.
-use Prim.Native.Nat.{_≤_}
-use lib.ListN.{length}
+-- The part of the buffer that was read and not yet taken, and how it goes on.
+use mathlib.Core.Path.{_≡_}
+use Prim.Native.Nat.{_+_, _-_, _<_, _≤_}
+use mathlib.Core.List.{_++_}
+use lib.ListN.{length, take, drop}
 use Rattle.rules.specs.Text.{Bytes}
+use Rattle.replies.specs.Answers.{Answers, NoneLies}
 use Rattle.replies.specs.declared.Window.{Window}
 use Rattle.replies.specs.declared.Answered.{Answered}
 use Rattle.replies.specs.declared.Answered.the-variants as Answered
 
+-- the window lies in the buffer
 pub record Within (buffer : Bytes) (w : Window) : Type 0 where
   pub on : w .start ≤ w .end
   pub inside : w .end ≤ length buffer
 
--- where requests go on
-abbrev pub AnsweredWithin : Bytes → Answered → Type 0
-AnsweredWithin buffer (Answered.On w) = Within buffer w
-AnsweredWithin buffer Answered.Last = Unit {0}
+abbrev pub bytesOf : Bytes → Window → Bytes
+bytesOf buffer w = take (w .end - w .start) (drop (w .start) buffer)
+
+-- the window was moved, and its bytes with it
+pub record Moved (buffer : Bytes) (w : Window) (buffer′ : Bytes) (w′ : Window) : Type 0 where
+  pub within : Within buffer′ w′
+  pub same : bytesOf buffer′ w′ ≡ bytesOf buffer w
+
+-- and the buffer has a place behind it
+pub record Ready (buffer : Bytes) (w : Window) (buffer′ : Bytes) (w′ : Window) : Type 0 where
+  pub moved : Moved buffer w buffer′ w′
+  pub place : w′ .end < length buffer′
+
+-- more was read behind the bytes of the window
+pub record ReadBehind (buffer : Bytes) (w : Window) (buffer′ : Bytes) (w′ : Window) : Type 0 where
+  pub within : Within buffer′ w′
+  pub more : Bytes
+  pub behind : bytesOf buffer′ w′ ≡ bytesOf buffer w ++ more
+
+abbrev pub ReadOn : (buffer : Bytes) (w : Window) (buffer′ : Bytes) → Answered → Type 0
+ReadOn buffer w buffer′ (Answered.On w′) = ReadBehind buffer w buffer′ w′
+ReadOn buffer w buffer′ Answered.Last = Unit {0}
+
+-- requests were taken from the front of the window, and more was read behind what is left
+pub record WentOn (buffer : Bytes) (w : Window) (buffer′ : Bytes) (w′ : Window) : Type 0 where
+  pub within : Within buffer′ w′
+  pub asked : Bytes
+  pub said : Bytes
+  pub left : Bytes
+  pub more : Bytes
+  pub answers : Answers asked said
+  pub before : bytesOf buffer w ≡ asked ++ left
+  pub after : bytesOf buffer′ w′ ≡ left ++ more
+
+-- or they end, and no request lies whole at the front of what is left
+pub record Ended (buffer : Bytes) (w : Window) : Type 0 where
+  pub asked : Bytes
+  pub said : Bytes
+  pub left : Bytes
+  pub answers : Answers asked said
+  pub before : bytesOf buffer w ≡ asked ++ left
+  pub none : NoneLies left
+
+abbrev pub AnsweredNext : (buffer : Bytes) (w : Window) (buffer′ : Bytes) → Answered → Type 0
+AnsweredNext buffer w buffer′ (Answered.On w′) = WentOn buffer w buffer′ w′
+AnsweredNext buffer w buffer′ Answered.Last = Ended buffer w

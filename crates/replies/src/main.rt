@@ -5,12 +5,12 @@ ghost use mathlib.Core.Bool.{true};
 ghost use mathlib.Core.List.{_++_};
 ghost use Prim.Native.Nat.{_+_, _*_, _<_, _≤_};
 ghost use lib.ListN.{length, getD, take};
-ghost use Rattle.report.specs.Line.{lineOf};
+ghost use Rattle.report.specs.Line.{lineOf, judgeLine};
 ghost use Rattle.report.specs.Writing.{Wrote};
 ghost use Rattle.replies.specs.Request.{Plain, NumberReply, FieldEnd, CountReply, AskReply, Counted, RequestOf, RequestReply, LineReply};
-ghost use Rattle.replies.specs.Reply.{judgeLine, playLine, outcomeLine, replyOf};
-ghost use Rattle.replies.specs.Answers.{LineEnd, WholeIn, FoundIn, AnswerOf, GatheredFrom};
-ghost use Rattle.replies.specs.Window.{Within, AnsweredWithin};
+ghost use Rattle.replies.specs.Reply.{playLine, outcomeLine, replyOf};
+ghost use Rattle.replies.specs.Answers.{Replies, LineEnd, WholeIn, FoundIn, AnswerOf, GatheredFrom};
+ghost use Rattle.replies.specs.Window.{Within, Moved, Ready, ReadOn, AnsweredNext};
 ghost use Rattle.replies.specs.Lent.{FilledFrom, ZeroUpTo, WorkspaceLaid, RoomLaid};
 use check::same;
 use libc::STDIN_FILENO;
@@ -385,9 +385,9 @@ fn write_reply(replies: &mut [u8], at: usize, first: u32, others: &[u32], listed
     write_byte(replies, last, b'\n')
 }
 
-// Writes the first n bytes of the replies to standard output.
+// Writes the first n bytes of the replies to standard output; they are the replies to some requests, and nothing else.
 fn print(replies: &[u8], n: usize)
-    requires { ⌜ n ≤ length (now replies) ⌝ }
+    requires { ⌜ (n ≤ length (now replies)) × Replies (take n (now replies)) ⌝ }
 {
     io::write_all(STDOUT_FILENO, &replies[..n]);
 }
@@ -697,7 +697,7 @@ enum Answered {
 // Moves the bytes of the window to the front of the buffer.
 fn to_front(buffer: &mut [u8], window: Window) -> Window
     requires { ⌜ Within (now buffer) window ⌝ }
-    ensures { λ r. ⌜ Within (now (buffer .exit)) r ⌝ }
+    ensures { λ r. ⌜ (Moved (now (buffer .entry)) window (now (buffer .exit)) r) × (r .start ≡ 0) ⌝ }
 {
     let start = window.start;
     let left = window.end - start;
@@ -714,8 +714,8 @@ fn to_front(buffer: &mut [u8], window: Window) -> Window
 
 // The window, moved to the front where the buffer has no place behind it, or where it is empty.
 fn placed(buffer: &mut [u8], window: Window) -> Window
-    requires { ⌜ Within (now buffer) window ⌝ }
-    ensures { λ r. ⌜ Within (now (buffer .exit)) r ⌝ }
+    requires { ⌜ (Within (now buffer) window) × (window .end < window .start + length (now buffer)) ⌝ }
+    ensures { λ r. ⌜ Ready (now (buffer .entry)) window (now (buffer .exit)) r ⌝ }
 {
     if window.start == window.end {
         return Window { start: 0, end: 0 };
@@ -726,8 +726,10 @@ fn placed(buffer: &mut [u8], window: Window) -> Window
     to_front(buffer, window)
 }
 
-// Reads from standard input into the buffer once, and returns how many bytes came.
+// Reads from standard input into the buffer once, and returns how many bytes came: none where the input has ended, since the buffer has
+// a place.
 fn refill(buffer: &mut [u8]) -> usize
+    requires { ⌜ 0 < length (now buffer) ⌝ }
     ensures { λ r. ⌜ r ≤ length (now (buffer .exit)) ⌝ }
 {
     let got = libc::read(STDIN_FILENO, buffer);
@@ -743,8 +745,8 @@ fn say_end(window: Window) {
 
 // Reads more of the input behind the window.
 fn read_on(buffer: &mut [u8], window: Window) -> Answered
-    requires { ⌜ Within (now buffer) window ⌝ }
-    ensures { λ r. ⌜ AnsweredWithin (now (buffer .exit)) r ⌝ }
+    requires { ⌜ (Within (now buffer) window) × (window .end < window .start + length (now buffer)) ⌝ }
+    ensures { λ r. ⌜ ReadOn (now (buffer .entry)) window (now (buffer .exit)) r ⌝ }
 {
     let ready = placed(buffer, window);
     let start = ready.start;
@@ -771,9 +773,9 @@ fn answer_next(
     room: &mut [u32],
     replies: &mut [u8],
 ) -> Answered
-    requires within { ⌜ Within (now buffer) window ⌝ }
+    requires within { ⌜ (Within (now buffer) window) × (69974 ≤ length (now buffer)) ⌝ }
     requires lent { ⌜ (length (now numbers) ≡ 403) × (length (now workspace) ≡ 9000) × (length (now room) ≡ 1000) ⌝ }
-    ensures { λ r. ⌜ AnsweredWithin (now (buffer .exit)) r ⌝ }
+    ensures { λ r. ⌜ AnsweredNext (now (buffer .entry)) window (now (buffer .exit)) r ⌝ }
 {
     let start = window.start;
     let end = window.end;
@@ -803,7 +805,8 @@ fn answer_all(
     room: &mut [u32],
     replies: &mut [u8],
 )
-    requires { ⌜ (length (now numbers) ≡ 403) × (length (now workspace) ≡ 9000) × (length (now room) ≡ 1000) ⌝ }
+    requires long { ⌜ 69974 ≤ length (now buffer) ⌝ }
+    requires lent { ⌜ (length (now numbers) ≡ 403) × (length (now workspace) ≡ 9000) × (length (now room) ≡ 1000) ⌝ }
 {
     let mut window = Window { start: 0, end: 0 };
     let mut turns = u64::MAX;

@@ -1,5 +1,5 @@
 -- Lines of numbers, and how the code writes them into a room, one number after another.
-use mathlib.Core.Path.{_≡_, refl, sym, ap, _∙_}
+use mathlib.Core.Path.{_≡_, refl, sym, ap, subst, _∙_}
 use Prim.Native.Nat.{ℕ, _+_, _*_, _^_, _<_, _≤_}
 use mathlib.Core.List.{List, [], _∷_, _++_, append-assoc, append-nil}
 use native.Mathlib.Numerals.{add-one}
@@ -7,9 +7,12 @@ use native.Mathlib.Omega.{arith}
 use lib.ListN.{length, getD, take, length-append}
 use lib.Seq.{append-snoc, take-suc, take-all}
 use Rattle.rules.specs.Text.{Bytes}
+use Rattle.rules.specs.Verdict.{told}
+use Rattle.rules.specs.Entries.{JudgeKept}
 use Rattle.rules.specs.declared.Told.{Told}
+use Rattle.rules.specs.declared.Verdict.{Verdict}
 use Rattle.report.specs.Decimal.{decimal}
-use Rattle.report.specs.Line.{fields, lineOf, reportLine}
+use Rattle.report.specs.Line.{fields, lineOf, reportLine, judgeLine}
 use Rattle.report.specs.Writing.{Wrote, WroteWithin}
 use Rattle.report.proofs.Decimal.{Every, every-none, every-more, every-tail, every-append, every-so, Digit, decimal-digits, decimal-short}
 use Rattle.report.proofs.Writing.{wrote-none, wrote-length, wrote-then}
@@ -87,3 +90,9 @@ pub wrote-report : {t s : Told} {room : List ℕ} {at : ℕ} {room′ : List ℕ
     → Wrote (reportLine s) room at room′ n
 unfolding reportLine
 wrote-report e p = rw (← e) p
+
+-- the line of the verdict that judge promises
+pub wrote-judge : {workspace workspace′ : List ℕ} {t : Bytes} {v : Verdict} {room : Bytes} {at : ℕ} {room′ : Bytes} {end : ℕ}
+    → JudgeKept workspace t v workspace′ → Wrote (reportLine (told v)) room at room′ end → Wrote (judgeLine (length workspace) t) room at room′ end
+unfolding judgeLine
+wrote-judge {room = room} {at} {room′} {end} k w = subst (λ (v : Verdict). Wrote (reportLine (told v)) room at room′ end) (k .reply) w

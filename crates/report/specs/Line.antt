@@ -2,6 +2,8 @@
 use Prim.Native.Nat.{ℕ}
 use mathlib.Core.List.{List, [], _∷_, _++_}
 use Rattle.rules.specs.Text.{Bytes}
+use Rattle.rules.specs.Verdict.{told}
+use Rattle.rules.specs.Entries.{judge}
 use Rattle.rules.specs.declared.Told.{Told}
 use Rattle.report.specs.Decimal.{decimal}
 
@@ -17,3 +19,7 @@ lineOf n ns = decimal n ++ fields ns ++ 10 ∷ []
 -- the line that the judging program prints: verdict, line, cell, index, moves, waits, outcomes
 unfoldable pub reportLine : Told → Bytes
 reportLine t = lineOf (t .number) (t .line ∷ t .cell ∷ t .index ∷ t .moves ∷ t .waits ∷ t .outcomes ∷ [])
+
+-- and that of a sheet's text, judged with a workspace of so many numbers
+unfoldable pub judgeLine : (workspace : ℕ) → Bytes → Bytes
+judgeLine w t = reportLine (told (judge w t))

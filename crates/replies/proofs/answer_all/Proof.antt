@@ -52,7 +52,7 @@ loop-less c = search needs
 
 loop-again : tie.Need-loop-again Inv-loop μ-loop
 loop-again c =
-    (rw (c .before .rest .given .1) at (c .before .before .before .before .before .before .before .before .before .before .before .before .before .answer-next .ensures), search needs, search needs, search needs, search needs, search needs)
+    ((rw (c .before .rest .given .1) at (c .before .before .before .before .before .before .before .before .before .before .before .before .before .answer-next .ensures)) .within, search needs, search needs, search needs, search needs, search needs)
 
 same-length-6 : tie.Need-same-length-6 Inv-loop μ-loop
 same-length-6 c = search needs

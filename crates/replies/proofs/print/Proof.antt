@@ -7,4 +7,4 @@ use Rattle.replies.proofs.print.Tie as tie
 
 pub print-spec : {M : Type 1} → statement M
 print-spec =
-    tie.close (tie.spec (λ c. sym (length-take-le _ _ (c .before .before .pre))) (λ c κs. search needs) (λ c. search needs))
+    tie.close (tie.spec (λ c. sym (length-take-le _ _ (c .before .before .pre .0))) (λ c κs. search needs) (λ c. search needs))

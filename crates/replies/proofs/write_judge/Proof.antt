@@ -1,8 +1,8 @@
 -- `replies::write_judge` meets its contract: the workspace is always found as it is laid down, and the verdict's line is the reply.
 use borrow.Author.Needs.{needs}
 use borrow.Author.Tests.{not-true}
+use Rattle.report.proofs.Line.{wrote-judge}
 use Rattle.replies.proofs.Lent.{workspace-never}
-use Rattle.replies.proofs.Replying.{wrote-judge}
 use Rattle.replies.proofs.write_judge.Statement.{statement}
 use Rattle.replies.proofs.write_judge.Tie as tie
 

@@ -1,0 +1,24 @@
+-- `replies::placed` meets its contract: behind the window there is a place, since it is shorter than the buffer.
+use native.Mathlib.Omega.{arith}
+use borrow.Author.Needs.{needs}
+use Rattle.replies.proofs.Moving.{ready-empty, ready-there, ready-front}
+use Rattle.replies.proofs.placed.Statement.{statement}
+use Rattle.replies.proofs.placed.Tie as tie
+
+returns : tie.Need-returns
+returns c = ready-empty (omega arith) (omega (arith, c .before .before .before .pre .1))
+
+returns-2 : tie.Need-returns-2
+returns-2 c = search needs
+
+to-front-requires : tie.Need-to-front-requires
+to-front-requires c κs = search needs
+
+same-length : tie.Need-same-length
+same-length c = search needs
+
+returns-3 : tie.Need-returns-3
+returns-3 c = ready-front (c .before .before .before .before .before .before .before .before .before .pre .0) (c .before .before .before .before .before .before .before .before .before .pre .1) (search needs) (c .before .before .to-front .ensures .0) (c .before .before .to-front .ensures .1)
+
+pub placed-spec : {M : Type 1} → statement M
+placed-spec = tie.close (tie.spec returns returns-2 to-front-requires same-length returns-3)
