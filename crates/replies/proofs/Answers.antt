@@ -1,5 +1,5 @@
 -- Requests that were answered one after another, and their replies.
-use mathlib.Core.Path.{_≡_, refl, sym, ap, subst, subst⁻¹, _∙_}
+use mathlib.Core.Path.{_≡_, ap, subst⁻¹, _∙_}
 use Prim.Native.Nat.{ℕ, _+_, _-_, _<_, _≤_}
 use mathlib.Core.List.{List, [], _∷_, _++_}
 use native.Mathlib.Numerals.{add-one}
@@ -9,24 +9,27 @@ use lib.Seq.{append-snoc, take-all, take-suc, take-add, take-at}
 use Rattle.rules.specs.Text.{Bytes}
 use Rattle.report.specs.Writing.{Wrote}
 use Rattle.report.proofs.Writing.{wrote-length}
-use Rattle.replies.specs.Request.{LineOf}
 use Rattle.replies.specs.Reply.{replyOf}
-use Rattle.replies.specs.Answers.{Sent, sent, replied, Answers, none, more, WholeIn, AnsweredTo, EndsWith, GatheredFrom}
+use Rattle.replies.specs.Answers.{sent, replied, Answers, none, more, WholeIn, AnsweredTo, EndsWith, GatheredFrom}
 use Rattle.replies.specs.declared.Request.{Request}
 use Rattle.replies.specs.declared.Ending.{Ending}
-use Rattle.replies.specs.declared.Gathered.{Gathered}
 
--- the request whose text begins at a place was answered
+-- the bytes of a request whose text begins at a place, behind the line feed of its line
+request-bytes : (bytes : Bytes) (end text n : ℕ) → text ≡ end + 1 → getD bytes end 0 ≡ 10 → text + n ≤ length bytes
+    → take (text + n) bytes ≡ take end bytes ++ 10 ∷ take (text + n - text) (drop text bytes)
+request-bytes bytes end text n after feed fits =
+    let size : text + n - text ≡ n = omega arith in
+    let line : take text bytes ≡ take end bytes ++ 10 ∷ [] = rw (after, add-one, take-suc bytes end 0 (omega arith), feed) in
+    take-add text n bytes ∙ rw (size, line) (append-snoc (take end bytes) 10 (take n (drop text bytes)))
+
+-- it was answered
 pub answered-to : {bytes : Bytes} {numbers : List ℕ} {r : Request} {text : ℕ} {replies : Bytes} {at : ℕ} {replies′ : Bytes} {end : ℕ} → WholeIn bytes numbers r text
     → Wrote (replyOf r (take (r .count) numbers) (take (text + r .bytes - text) (drop text bytes))) replies at replies′ end
     → AnsweredTo bytes replies at replies′ (text + r .bytes) end
 answered-to {bytes} {numbers} {r} {text} w h =
-    let n : text + r .bytes - text ≡ r .bytes = omega arith in
-    let line = take (w .end) bytes in
-    let first : take text bytes ≡ line ++ 10 ∷ [] = rw (w .after, add-one, take-suc bytes (w .end) 0 (omega (arith, w .after, w .fits)), w .feed) in
     record {
       request = record {
-        line = line;
+        line = take (w .end) bytes;
         numbers = take (r .count) numbers;
         request = r;
         text = take (text + r .bytes - text) (drop text bytes);
@@ -34,7 +37,7 @@ answered-to {bytes} {numbers} {r} {text} w h =
         size = omega (arith, length-take (text + r .bytes - text) (drop text bytes), length-drop text bytes, w .fits);
       };
       inside = w .fits;
-      taken = take-add text (r .bytes) bytes ∙ rw (n, first) (append-snoc line 10 (take (r .bytes) (drop text bytes)));
+      taken = request-bytes bytes (w .end) text (r .bytes) (w .after) (w .feed) (w .fits);
       wrote = h;
     }
 

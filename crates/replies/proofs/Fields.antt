@@ -1,9 +1,8 @@
 -- The fields of a line: where a field ends, and that a text begins with one field only.
 use mathlib.Core.Path.{_≡_, refl, sym, ap}
-use Prim.Native.Nat.{ℕ, _+_, _-_, _<_, _≤_}
+use Prim.Native.Nat.{ℕ, _+_, _-_, _<_}
 use mathlib.Core.List.{List, [], _∷_, _++_, append-assoc, append-nil}
-use mathlib.Core.Logic.{⊎-elim}
-use native.Mathlib.Nat.{eq-zero-or-pos, add-zero}
+use native.Mathlib.Nat.{add-zero}
 use native.Mathlib.Omega.{arith}
 use lib.ListN.{length, getD, take, drop, length-take, length-drop, take-append-drop}
 use lib.Seq.{drop-drop, getD-take, getD-drop}
@@ -84,30 +83,6 @@ fields-one ns ms h = go (o .rest) (o .splits) (o .reads)
     go : (rest : List ℕ) → ns ≡ ms ++ rest → [] ≡ fields rest → ns ≡ ms
     go [] s r = rw append-nil at s
     go (n ∷ rest) s r = absurd (omega (arith, ap length r))
-
--- from where a field begins, the bytes up to a place are its own
-pub record Passed (line : Bytes) (begin end : ℕ) : Type 0 where
-  pub on : begin ≤ end
-  pub inside : end ≤ length line
-  pub next : (j : ℕ) → begin ≤ j → j < end → ¬ (getD line j 0 ≡ 9)
-
--- no byte yet
-pub passed-none : {line : Bytes} {begin : ℕ} → begin ≤ length line → Passed line begin begin
-passed-none h = record { on = omega arith; inside = h; next = λ j l k. absurd (omega arith) }
-
--- a byte more, which is no tab
-pub passed-more : {line : Bytes} {begin end : ℕ} → Passed line begin end → end < length line → ¬ (getD line end 0 ≡ 9) → Passed line begin (end + 1)
-passed-more {line} {begin} {end} p h t =
-    record {
-      on = omega (arith, p .on);
-      inside = omega arith;
-      next = λ j l k.
-          ⊎-elim (λ e. let q : j ≡ end = omega arith in rw q t) (λ s. p .next j l (omega arith)) (eq-zero-or-pos (end - j));
-    }
-
--- the field ends at a place that has a tab, or with the line
-pub passed-all : {line : Bytes} {begin end : ℕ} → Passed line begin end → (end < length line → getD line end 0 ≡ 9) → FieldEnd line begin end
-passed-all p h = record { on = p .on; inside = p .inside; stops = h; next = p .next }
 
 -- what follows the field that ends at a place of a line
 pub line-ends : (line : Bytes) (end : ℕ) → (end < length line → getD line end 0 ≡ 9) → Ends (drop end line)

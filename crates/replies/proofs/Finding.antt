@@ -1,5 +1,5 @@
 -- The first request of some bytes: where its line ends, and when there is none.
-use mathlib.Core.Path.{_≡_, sym, ap, subst, subst⁻¹, _∙_}
+use mathlib.Core.Path.{_≡_, sym, ap, subst, _∙_}
 use Prim.Native.Nat.{ℕ, _+_, _-_, _<_, _≤_}
 use mathlib.Core.List.{List, [], _∷_, _++_, append-assoc, append-nil}
 use mathlib.Core.Logic.{_⊎_, inl, inr, ⊎-elim}
@@ -40,7 +40,7 @@ module _ (bytes after rest : Bytes) (s : Sent) (begins : bytes ++ after ≡ sent
     where
       by-place : (length (s .line) - end ≡ 0) ⊎ (0 < length (s .line) - end) → (end - length (s .line) ≡ 0) ⊎ (0 < end - length (s .line)) → s .line ≡ take end bytes
       by-place (inr p) q = absurd (no-feed end (omega arith) h e)
-      by-place (inl p) (inr q) = absurd (l .first (length (s .line)) (omega arith) (feed (omega arith)))
+      by-place (inl p) (inr q) = absurd (l .place .next (length (s .line)) (omega arith) (omega (arith, l .place .inside)) (feed (omega arith)))
       by-place (inl p) (inl q) =
           sym (take-at (s .line) (10 ∷ (s .text ++ rest)) end (omega arith)) ∙ sym (ap (take end) parts) ∙ take-append-le end bytes after (omega arith)
 
@@ -51,7 +51,7 @@ no-line {bytes} {end} l h =
       none = λ s rest e.
           let f : bytes ++ [] ≡ sent s ++ rest = append-nil bytes ∙ e in
           let size : length (s .line) < length bytes = omega (arith, ap length e, length-append (sent s) rest, length-append (s .line) (10 ∷ s .text)) in
-          l .first (length (s .line)) (omega arith) (feed bytes [] rest s f size);
+          l .place .next (length (s .line)) (omega arith) (omega (arith, l .place .inside)) (feed bytes [] rest s f size);
       short = omega (arith, l .short);
     }
 
@@ -59,12 +59,13 @@ no-line {bytes} {end} l h =
 pub long-line : {bytes : Bytes} {end : ℕ} → LineEnd bytes end → end < length bytes → ¬ (getD bytes end 0 ≡ 10) → NoneBegins bytes
 long-line {bytes} {end} l h n s after rest e =
     let short = line-short (s .asked) in
-    let far : 4437 ≤ end = ⊎-elim (λ z. omega arith) (λ p. absurd (n (l .stops h (omega arith)))) (eq-zero-or-pos (4437 - end)) in
+    let limit : l .limit ≤ end = ⊎-elim (λ z. omega arith) (λ p. absurd (n (l .place .stops (omega arith)))) (eq-zero-or-pos (l .limit - end)) in
+    let far : l .limit ≡ 4437 = l .far (omega (arith, l .place .inside)) in
     ⊎-elim
     (λ z.
     let same : length (s .line) ≡ end = omega arith in
     n (subst (λ (j : ℕ). getD bytes j 0 ≡ 10) same (feed bytes after rest s e (omega arith))))
-    (λ p. l .first (length (s .line)) (omega arith) (feed bytes after rest s e (omega arith)))
+    (λ p. l .place .next (length (s .line)) (omega arith) (omega (arith, l .place .inside)) (feed bytes after rest s e (omega arith)))
     (eq-zero-or-pos (end - length (s .line)))
 
 -- the line is no request's

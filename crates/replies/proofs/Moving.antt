@@ -1,9 +1,9 @@
 -- The window of the buffer: moving it to the front, reading behind it, and taking requests from it.
-use mathlib.Core.Path.{_≡_, refl, sym, ap, subst, _∙_}
+use mathlib.Core.Path.{_≡_, refl, sym, ap, _∙_}
 use Prim.Native.Nat.{ℕ, _+_, _-_, _<_, _≤_}
 use mathlib.Core.List.{[], _++_, append-nil}
 use native.Mathlib.Omega.{arith}
-use lib.ListN.{length, getD, take, drop, length-append, length-take, length-drop, take-append-drop}
+use lib.ListN.{length, take, drop, length-append, length-take, length-drop, take-append-drop}
 use lib.Seq.{length-take-le, getD-take, take-append-add, drop-append-le, drop-drop, ext-getD}
 use Rattle.rules.specs.Text.{Bytes}
 use Rattle.sheet.specs.Playing.{Copied}
@@ -35,10 +35,6 @@ moved-front {buffer} {w} {buffer′} h k =
           ∙ k .first i (omega (arith, long))
           ∙ sym (getD-take n (drop (w .start) buffer) i 0 (omega (arith, long))));
     }
-
--- a window that need not be moved
-pub ready-there : {buffer : Bytes} {w : Window} → Within buffer w → w .end < length buffer → Ready buffer w buffer w
-ready-there h p = record { moved = record { within = h; same = refl }; place = p }
 
 -- an empty window is put to the front
 pub ready-empty : {buffer : Bytes} {w : Window} → w .start ≡ w .end → 0 < length buffer → Ready buffer w buffer (record { start = 0; end = 0 })

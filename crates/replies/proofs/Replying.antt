@@ -8,7 +8,7 @@ use lib.Seq.{length-take-le, getD-take, take-add, take-at, drop-at}
 use Rattle.rules.specs.Words.{oneIf}
 use Rattle.rules.specs.Text.{Bytes}
 use Rattle.rules.specs.Verdict.{told}
-use Rattle.rules.specs.Entries.{play, playShown, outcome, outcomeShown, roomAfter, PlayKept, OutcomeKept}
+use Rattle.rules.specs.Entries.{playShown, outcomeShown, roomAfter, PlayKept, OutcomeKept}
 use Rattle.rules.specs.declared.Told.{Told}
 use Rattle.rules.specs.declared.Played.{Played}
 use Rattle.rules.specs.declared.Named.{Named}

@@ -5,7 +5,7 @@ use mathlib.Core.List.{List, [], _∷_, _++_}
 use lib.ListN.{length, getD, take, drop}
 use Rattle.rules.specs.Text.{Bytes}
 use Rattle.report.specs.Writing.{Wrote}
-use Rattle.replies.specs.Request.{LineOf}
+use Rattle.replies.specs.Request.{FirstPlace, LineOf}
 use Rattle.replies.specs.Reply.{replyOf}
 use Rattle.replies.specs.declared.Request.{Request}
 use Rattle.replies.specs.declared.Found.{Found}
@@ -57,10 +57,11 @@ pub record NoneWhole (bytes : Bytes) : Type 0 where
 
 -- the first line feed is at `end`, or the bytes have none and end there, or no line of a request is so long
 pub record LineEnd (bytes : Bytes) (end : ℕ) : Type 0 where
-  pub inside : end ≤ length bytes
-  pub short : end ≤ 4437
-  pub stops : end < length bytes → end < 4437 → getD bytes end 0 ≡ 10
-  pub first : (j : ℕ) → j < end → ¬ (getD bytes j 0 ≡ 10)
+  pub limit : ℕ
+  pub short : limit ≤ 4437
+  pub inside : limit ≤ length bytes
+  pub far : limit < length bytes → limit ≡ 4437
+  pub place : FirstPlace 10 bytes 0 limit end
 
 -- a request at the front of the bytes, whose text begins at a place
 pub record WholeIn (bytes : Bytes) (numbers : List ℕ) (r : Request) (text : ℕ) : Type 0 where

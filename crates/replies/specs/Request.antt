@@ -38,12 +38,16 @@ abbrev pub NumberReply : Bytes → NumberRead → Type 0
 NumberReply field (NumberRead.Got n) = (n ≤ largest) × (field ≡ decimal n)
 NumberReply field NumberRead.Nothing = (n : ℕ) → n ≤ largest → ¬ (field ≡ decimal n)
 
+-- the first place from a place on that has the byte, or the limit where none before it has
+pub record FirstPlace (byte : ℕ) (bytes : Bytes) (from limit at : ℕ) : Type 0 where
+  pub on : from ≤ at
+  pub inside : at ≤ limit
+  pub stops : at < limit → getD bytes at 0 ≡ byte
+  pub next : (j : ℕ) → from ≤ j → j < at → ¬ (getD bytes j 0 ≡ byte)
+
 -- a field that begins at a place ends at the next tab, or with the line
-pub record FieldEnd (line : Bytes) (begin end : ℕ) : Type 0 where
-  pub on : begin ≤ end
-  pub inside : end ≤ length line
-  pub stops : end < length line → getD line end 0 ≡ 9
-  pub next : (j : ℕ) → begin ≤ j → j < end → ¬ (getD line j 0 ≡ 9)
+abbrev pub FieldEnd : (line : Bytes) (begin end : ℕ) → Type 0
+FieldEnd line begin end = FirstPlace 9 line begin (length line) end
 
 -- numbers that the rest of a line can be: 403 at most, each of 32 bits
 pub record Few (numbers : List ℕ) : Type 0 where

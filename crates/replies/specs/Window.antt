@@ -1,6 +1,6 @@
 -- The part of the buffer that was read and not yet taken, and how it goes on.
 use mathlib.Core.Path.{_≡_}
-use Prim.Native.Nat.{_+_, _-_, _<_, _≤_}
+use Prim.Native.Nat.{_-_, _<_, _≤_}
 use mathlib.Core.List.{_++_}
 use lib.ListN.{length, take, drop}
 use Rattle.rules.specs.Text.{Bytes}

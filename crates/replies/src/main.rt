@@ -7,7 +7,7 @@ ghost use Prim.Native.Nat.{_+_, _*_, _<_, _≤_};
 ghost use lib.ListN.{length, getD, take};
 ghost use Rattle.report.specs.Line.{lineOf, judgeLine};
 ghost use Rattle.report.specs.Writing.{Wrote};
-ghost use Rattle.replies.specs.Request.{Plain, NumberReply, FieldEnd, CountReply, AskReply, Counted, RequestOf, RequestReply, LineReply};
+ghost use Rattle.replies.specs.Request.{Plain, NumberReply, FirstPlace, FieldEnd, CountReply, AskReply, Counted, RequestOf, RequestReply, LineReply};
 ghost use Rattle.replies.specs.Reply.{playLine, outcomeLine, replyOf};
 ghost use Rattle.replies.specs.Answers.{Replies, LineEnd, WholeIn, FoundIn, AnswerOf, GatheredFrom};
 ghost use Rattle.replies.specs.Window.{Within, Moved, Ready, ReadOn, AnsweredNext};
@@ -103,19 +103,27 @@ fn number(field: &[u8]) -> NumberRead
     NumberRead::Got(value as u32)
 }
 
+// The first place from a place on that has the byte, or the limit where none before it has.
+fn place_of(byte: u8, bytes: &[u8], from: usize, limit: usize) -> usize
+    requires { ⌜ (from ≤ limit) × (limit ≤ length (now bytes)) ⌝ }
+    ensures { λ r. ⌜ FirstPlace byte (now (bytes .entry)) from limit r ⌝ }
+{
+    let mut at = from;
+    while at < limit {
+        if bytes[at] == byte {
+            return at;
+        }
+        at += 1;
+    }
+    at
+}
+
 // Where the field that begins at a place ends: at the next tab, or with the line.
 fn field_end(line: &[u8], begin: usize) -> usize
     requires { ⌜ begin ≤ length (now line) ⌝ }
     ensures { λ r. ⌜ FieldEnd (now (line .entry)) begin r ⌝ }
 {
-    let mut end = begin;
-    while end < line.len() {
-        if line[end] == b'\t' {
-            return end;
-        }
-        end += 1;
-    }
-    end
+    place_of(b'\t', line, begin, line.len())
 }
 
 // How many numbers a line has after its first field.
@@ -254,17 +262,10 @@ enum Found {
 fn line_end(bytes: &[u8]) -> usize
     ensures { λ r. ⌜ LineEnd (now (bytes .entry)) r ⌝ }
 {
-    let mut end = 0;
-    while end < bytes.len() {
-        if bytes[end] == b'\n' {
-            return end;
-        }
-        if MOST_LINE <= end {
-            return end;
-        }
-        end += 1;
+    if bytes.len() < MOST_LINE {
+        return place_of(b'\n', bytes, 0, bytes.len());
     }
-    end
+    place_of(b'\n', bytes, 0, MOST_LINE)
 }
 
 // Finds the first request of the bytes, and reads its numbers.

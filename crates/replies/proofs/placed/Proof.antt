@@ -1,7 +1,7 @@
 -- `replies::placed` meets its contract: behind the window there is a place, since it is shorter than the buffer.
 use native.Mathlib.Omega.{arith}
 use borrow.Author.Needs.{needs}
-use Rattle.replies.proofs.Moving.{ready-empty, ready-there, ready-front}
+use Rattle.replies.proofs.Moving.{ready-empty, ready-front}
 use Rattle.replies.proofs.placed.Statement.{statement}
 use Rattle.replies.proofs.placed.Tie as tie
 
