@@ -10,9 +10,10 @@ use Rattle.rules.specs.Text.{Bytes}
 use Rattle.report.specs.Writing.{Wrote}
 use Rattle.report.proofs.Writing.{wrote-length}
 use Rattle.replies.specs.Reply.{replyOf}
-use Rattle.replies.specs.Answers.{sent, replied, Answers, none, more, WholeIn, AnsweredTo, EndsWith, GatheredFrom}
+use Rattle.replies.specs.Answers.{sent, replied, Answers, none, more, WholeIn, AnsweredTo, EndsWith, gatheredAs, GatheredFrom}
 use Rattle.replies.specs.declared.Request.{Request}
 use Rattle.replies.specs.declared.Ending.{Ending}
+use Rattle.replies.specs.declared.Gathered.{Gathered}
 
 -- the bytes of a request whose text begins at a place, behind the line feed of its line
 request-bytes : (bytes : Bytes) (end text n : ℕ) → text ≡ end + 1 → getD bytes end 0 ≡ 10 → text + n ≤ length bytes
@@ -78,6 +79,7 @@ pub rest-of : (bytes : Bytes) (taken : ℕ) → take (length bytes - taken) (dro
 rest-of bytes taken = take-all (length bytes - taken) (drop taken bytes) (omega (arith, length-drop taken bytes))
 
 -- no further request is answered
-pub gathered : {bytes replies : Bytes} {taken said : ℕ} {ending : Ending} → Gathering bytes replies taken said → EndsWith (drop taken bytes) ending
-    → GatheredFrom bytes replies (record { taken = taken; said = said; ending = ending })
-gathered g e = record { taken-inside = g .taken-inside; said-inside = g .said-inside; answers = g .answers; left = e }
+pub gathered : {bytes replies : Bytes} {taken said : ℕ} {ending : Ending} {g : Gathered} → Gathering bytes replies taken said → EndsWith (drop taken bytes) ending
+    → g ≡ gatheredAs taken said ending → GatheredFrom bytes replies g
+gathered {bytes} {replies} g e same =
+    subst⁻¹ (GatheredFrom bytes replies) same (record { taken-inside = g .taken-inside; said-inside = g .said-inside; answers = g .answers; left = e })

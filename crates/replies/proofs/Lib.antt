@@ -8,3 +8,4 @@ pub mod Replying
 pub mod Answers
 pub mod Moving
 pub mod Lent
+pub mod Samples

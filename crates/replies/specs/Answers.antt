@@ -95,6 +95,9 @@ EndsWith rest Ending.Partial = NoneWhole rest
 EndsWith rest Ending.Malformed = NoneBegins rest
 EndsWith rest Ending.Full = Unit {0}
 
+abbrev pub gatheredAs : (taken said : ℕ) → Ending → Gathered
+gatheredAs taken said ending = record { taken = taken; said = said; ending = ending }
+
 -- the requests that were taken from the front of the bytes, and all their replies
 pub record GatheredFrom (bytes replies : Bytes) (g : Gathered) : Type 0 where
   pub taken-inside : g .taken ≤ length bytes

@@ -9,7 +9,7 @@ ghost use Rattle.report.specs.Line.{lineOf, judgeLine};
 ghost use Rattle.report.specs.Writing.{Wrote};
 ghost use Rattle.replies.specs.Request.{Plain, NumberReply, FirstPlace, FieldEnd, CountReply, AskReply, Counted, RequestOf, RequestReply, LineReply};
 ghost use Rattle.replies.specs.Reply.{playLine, outcomeLine, replyOf};
-ghost use Rattle.replies.specs.Answers.{Replies, LineEnd, WholeIn, FoundIn, AnswerOf, GatheredFrom};
+ghost use Rattle.replies.specs.Answers.{Replies, LineEnd, WholeIn, FoundIn, AnswerOf, gatheredAs, GatheredFrom};
 ghost use Rattle.replies.specs.Window.{Within, Moved, Ready, ReadOn, AnsweredNext};
 ghost use Rattle.replies.specs.Lent.{FilledFrom, ZeroUpTo, WorkspaceLaid, RoomLaid};
 use check::same;
@@ -640,6 +640,17 @@ struct Gathered {
     ending: Ending,
 }
 
+// What was taken and said so far, and why there is no more.
+fn so_far(taken: usize, said: usize, ending: Ending) -> Gathered
+    ensures { λ r. ⌜ r ≡ gatheredAs taken said ending ⌝ }
+{
+    Gathered {
+        taken,
+        said,
+        ending,
+    }
+}
+
 // Answers the requests of the bytes, one after another.
 fn gather(
     bytes: &[u8],
@@ -656,31 +667,15 @@ fn gather(
     while MOST_REPLY <= replies.len() - said {
         let answer = answer_first(&bytes[taken..], numbers, workspace, room, replies, said);
         match answer {
-            Answer::Partial => {
-                return Gathered {
-                    taken,
-                    said,
-                    ending: Ending::Partial,
-                };
-            }
-            Answer::Malformed => {
-                return Gathered {
-                    taken,
-                    said,
-                    ending: Ending::Malformed,
-                };
-            }
+            Answer::Partial => return so_far(taken, said, Ending::Partial),
+            Answer::Malformed => return so_far(taken, said, Ending::Malformed),
             Answer::Got { next, end } => {
                 taken += next;
                 said = end;
             }
         }
     }
-    Gathered {
-        taken,
-        said,
-        ending: Ending::Full,
-    }
+    so_far(taken, said, Ending::Full)
 }
 
 // The bytes of the buffer that were read and not yet taken: from start up to end.

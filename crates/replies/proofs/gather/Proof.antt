@@ -38,6 +38,9 @@ answer-first-requires c κs = search needs
 enum-told : tie.Need-enum-told Inv-loop μ-loop
 enum-told c = search needs
 
+so-far-requires : tie.Need-so-far-requires Inv-loop μ-loop
+so-far-requires c κs = search needs
+
 same-length : tie.Need-same-length Inv-loop μ-loop
 same-length c = search needs
 
@@ -52,11 +55,14 @@ same-length-4 c = search needs
 
 returns : tie.Need-returns Inv-loop μ-loop
 returns c =
-    let h = rw (c .enum-told .given .1, rest-of (now (c .before .before .before .before .before .before .before .before .before .before .before .before .before .before .before .before .before .before .before .before .before .before .before .args .bytes)) (c .before .before .before .before .before .before .before .before .before .before .before .before .before .before .before .before .before .loop .taken)) at (c .before .before .before .before .before .before .before .before .before .before .answer-first .ensures) in
-    gathered (gathering-same (c .before .before .before .before .before .before .before .before .before .before .before .before .before .before .before .before .before .loop .inv .0) (h .0)) (h .1)
+    let h = rw (c .before .enum-told .given .1, rest-of (now (c .before .before .before .before .before .before .before .before .before .before .before .before .before .before .before .before .before .before .before .before .before .before .before .before .args .bytes)) (c .before .before .before .before .before .before .before .before .before .before .before .before .before .before .before .before .before .before .loop .taken)) at (c .before .before .before .before .before .before .before .before .before .before .before .answer-first .ensures) in
+    gathered (gathering-same (c .before .before .before .before .before .before .before .before .before .before .before .before .before .before .before .before .before .before .loop .inv .0) (h .0)) (h .1) (c .so-far .ensures)
 
 enum-told-2 : tie.Need-enum-told-2 Inv-loop μ-loop
 enum-told-2 c = search needs
+
+so-far-requires-2 : tie.Need-so-far-requires-2 Inv-loop μ-loop
+so-far-requires-2 c κs = search needs
 
 same-length-5 : tie.Need-same-length-5 Inv-loop μ-loop
 same-length-5 c = search needs
@@ -72,8 +78,8 @@ same-length-8 c = search needs
 
 returns-2 : tie.Need-returns-2 Inv-loop μ-loop
 returns-2 c =
-    let h = rw (c .enum-told2 .given .1, rest-of (now (c .before .before .before .before .before .before .before .before .before .before .before .before .before .before .before .before .before .before .before .before .before .before .before .args .bytes)) (c .before .before .before .before .before .before .before .before .before .before .before .before .before .before .before .before .before .loop .taken)) at (c .before .before .before .before .before .before .before .before .before .before .answer-first .ensures) in
-    gathered (gathering-same (c .before .before .before .before .before .before .before .before .before .before .before .before .before .before .before .before .before .loop .inv .0) (h .0)) (h .1)
+    let h = rw (c .before .enum-told2 .given .1, rest-of (now (c .before .before .before .before .before .before .before .before .before .before .before .before .before .before .before .before .before .before .before .before .before .before .before .before .args .bytes)) (c .before .before .before .before .before .before .before .before .before .before .before .before .before .before .before .before .before .before .loop .taken)) at (c .before .before .before .before .before .before .before .before .before .before .before .answer-first .ensures) in
+    gathered (gathering-same (c .before .before .before .before .before .before .before .before .before .before .before .before .before .before .before .before .before .before .loop .inv .0) (h .0)) (h .1) (c .so-far2 .ensures)
 
 enum-known-answer : tie.Need-enum-known-answer Inv-loop μ-loop
 enum-known-answer c = search needs
@@ -93,6 +99,9 @@ loop-again c =
     let a = rw (c .before .answer .given .1, rest-of (now (c .before .before .before .before .before .before .before .before .before .before .before .before .before .before .before .before .before .before .before .before .before .before .before .before .args .bytes)) (c .before .before .before .before .before .before .before .before .before .before .before .before .before .before .before .before .before .before .loop .taken)) at (c .before .before .before .before .before .before .before .before .before .before .before .answer-first .ensures) in
     (gathering-more (c .before .before .before .before .before .before .before .before .before .before .before .before .before .before .before .before .before .before .loop .inv .0) a, search needs, search needs, search needs, search needs)
 
+so-far-requires-3 : tie.Need-so-far-requires-3 Inv-loop μ-loop
+so-far-requires-3 c κs = search needs
+
 same-length-9 : tie.Need-same-length-9 Inv-loop μ-loop
 same-length-9 c = search needs
 
@@ -106,7 +115,7 @@ same-length-12 : tie.Need-same-length-12 Inv-loop μ-loop
 same-length-12 c = search needs
 
 returns-3 : tie.Need-returns-3 Inv-loop μ-loop
-returns-3 c = gathered (c .before .loop .inv .0) tt
+returns-3 c = gathered (c .before .before .loop .inv .0) tt (c .so-far3 .ensures)
 
 pub gather-spec : {M : Type 1} → statement M
 gather-spec =
@@ -121,12 +130,14 @@ gather-spec =
     part-answer-first-end
     answer-first-requires
     enum-told
+    so-far-requires
     same-length
     same-length-2
     same-length-3
     same-length-4
     returns
     enum-told-2
+    so-far-requires-2
     same-length-5
     same-length-6
     same-length-7
@@ -136,6 +147,7 @@ gather-spec =
     add-taken
     loop-less
     loop-again
+    so-far-requires-3
     same-length-9
     same-length-10
     same-length-11
