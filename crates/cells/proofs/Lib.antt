@@ -12,3 +12,4 @@ pub mod Room
 pub mod Sides
 pub mod Smallest
 pub mod Words
+pub mod Growing

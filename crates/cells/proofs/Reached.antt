@@ -1,5 +1,5 @@
 -- The joining test: what the first side grows to inside the board's cells has a cell of the last side exactly where a chain joins the two.
-use mathlib.Core.Path.{_≡_, sym, ap, _∙_, subst}
+use mathlib.Core.Path.{_≡_, sym, ap, _∙_, subst, subst⁻¹}
 use mathlib.Core.Bool.{Bool, false, not}
 use mathlib.Core.List.{List}
 use Prim.Native.Nat.{ℕ}
@@ -92,6 +92,14 @@ module _ (b : Board) (p : Player) (fits : Fits b) (s cells first last all : List
   abbrev found : ℕ → Bool
   found = held b (mergedRows false all last)
 
+  -- no place of it is off the board
+  found-clipped : Clipped b (mergedRows false all last) (mergedRows false all last)
+  found-clipped =
+      record {
+        inside = λ c r e o. e;
+        only = λ c r e. (e, cl .only c r (reach-in c r (grew .sound c r (both-out all last long-all long-last c r e .0))) .1);
+      }
+
   found-joins : (smallest b found ≡ 0 → ⊥) → Joins b p (held b s)
   found-joins h =
       let t = smallest-held b found h in
@@ -122,8 +130,9 @@ module _ (b : Board) (p : Player) (fits : Fits b) (s cells first last all : List
       (both-in all last long-all long-last (columnOf b (j .to)) (rowOf b (j .to)) (grew .whole (columnOf b (j .to)) (rowOf b (j .to)) l)
       (ls .inside (j .to) i (j .to-last))))
 
-  pub reached-joined : (n : ℕ) → n ≡ smallest b found → not (eqb n 0) ≡ joined b p (held b s)
-  reached-joined n e =
+  pub reached-joined : (n : ℕ) {words : List ℕ} → words ≡ mergedRows false all last → ((t : List ℕ) → Clipped b t words → n ≡ smallest b (held b t)) → not (eqb n 0) ≡ joined b p (held b s)
+  reached-joined n w low =
+      let e : n ≡ smallest b found = low (mergedRows false all last) (subst⁻¹ (Clipped b (mergedRows false all last)) w found-clipped) in
       same-test (not (eqb n 0)) (joined b p (held b s))
       (λ h. joins→joined b p (held b s) (found-joins (λ z. subst T (ap not (eq-eqb n 0 (e ∙ z))) h)))
       (λ h. holds-of (ap not (ne-eqb n 0 (λ z. joins-found (joined→joins b p (held b s) h) (sym e ∙ z)))))

@@ -106,12 +106,12 @@ module _ (b : Board) (s t : List ℕ) (fits : Fits b) (cl : Clipped b s t) where
   clipped-in y h = cl .inside (columnOf b y) (rowOf b y) (held-in b s y h) (cell-place b y fits (held-cell b s y h))
 
   -- no row has a cell
-  pub rows-empty : ((k : ℕ) → 1 ≤ k → k < 20 → getD t k 0 ≡ 0) → smallest b (held b s) ≡ 0
+  pub rows-empty : ((k : ℕ) → 1 ≤ k → k ≤ b .rows → getD t k 0 ≡ 0) → smallest b (held b s) ≡ 0
   rows-empty z =
       smallest-zero b (held b s)
       (λ y i h.
       let o = cell-place b y fits i in
-      digit-zero (columnOf b y) (rw (z (rowOf b y) (o .top) (omega (arith, o .bottom, fits .few-rows))) at (clipped-in y h)))
+      digit-zero (columnOf b y) (rw (z (rowOf b y) (o .top) (o .bottom)) at (clipped-in y h)))
 
   module _ (i : ℕ) (z : (k : ℕ) → 1 ≤ k → k < i → getD t k 0 ≡ 0) (small : getD t i 0 < 2 ^ 32) (some : getD t i 0 ≡ 0 → ⊥) where
     abbrev low : ℕ

@@ -1,8 +1,10 @@
 -- How the joining test grows the reached set of places, row by row, until it stops.
+use mathlib.Core.Path.{_≡_}
+use mathlib.Core.Bool.{Bool, true, false}
 use mathlib.Core.List.{List, [], _∷_}
 use Prim.Native.Nat.{ℕ, zero, suc, _+_, _-_, _*_, _/_, _%_, _^_, _<_, _≤_}
 use lib.Bits.{bitAnd, bitOr}
-use lib.ListN.{getD}
+use lib.ListN.{length, getD}
 use Rattle.cells.specs.Rows.{In, fill}
 
 -- the places in a row that touch one of the row h itself, of the row u above or of the row d below
@@ -22,6 +24,18 @@ newRow s a (suc k) = grownRow (getD s (suc k) 0) (newRow s a k) (getD a (suc k) 
 -- the first rows of a with their neighbours among the cells s
 abbrev pub grown : ℕ → List ℕ → List ℕ → List ℕ
 grown rows s a = fill (newRow s a) (suc rows) a
+
+-- a set's 21 words, of 32 bits each
+pub record Words (a : List ℕ) : Type 0 where
+  pub long : length a ≡ 21
+  pub fits : (k : ℕ) → getD a k 0 < 2 ^ 32
+
+-- a set that has grown, and whether it is another than before
+pub record GrownTo (rows : ℕ) (s a a′ : List ℕ) (more : Bool) : Type 0 where
+  pub words : Words a′
+  pub rows-are : a′ ≡ grown rows s a
+  pub stopped : more ≡ false → a ≡ a′
+  pub goes-on : more ≡ true → ¬ (a ≡ a′)
 
 -- the six neighbours of a place (column, row), the second place
 pub data Near : ℕ → ℕ → ℕ → ℕ → Type 0 where

@@ -3,6 +3,7 @@
 // board of up to 19 by 19. It sees rules.
 ghost use mathlib.Core.Path.{_≡_};
 ghost use mathlib.Core.Bool.{true, false, _&&_, _||_};
+ghost use mathlib.Core.List.{List};
 ghost use Prim.Native.Nat.{ℕ, _≤_};
 ghost use lib.Dec.{T, eqb};
 ghost use lib.ListN.{length, replicate};
@@ -11,7 +12,7 @@ ghost use Rattle.rules.specs.Joining.{joined};
 ghost use Rattle.rules.specs.declared.Board as declared;
 ghost use Rattle.cells.specs.Cells.{held, Fits, Listed};
 ghost use Rattle.cells.specs.Rows.{mergedRow, mergedRows, PlaceOf, Block, Clipped, Side};
-ghost use Rattle.cells.specs.Growing.{grownRow, grown, Framed, Closure};
+ghost use Rattle.cells.specs.Growing.{grownRow, Words, GrownTo, Framed, Closure};
 use rules::Board;
 use rules::Player;
 
@@ -93,28 +94,21 @@ fn grow_row(cells: u32, up: u32, here: u32, down: u32) -> u32
     here | (cells & (((here << 1) | (here >> 1)) | ((up | (up >> 1)) | (down | (down << 1)))))
 }
 
-// A set with its neighbours among the cells, row by row downwards, so that what a row takes in is taken on by the next.
-fn grow(cells: Cells, a: Cells, rows: usize) -> Cells
-    requires { ⌜ rows ≤ 19 ⌝ }
-    ensures { λ r. ⌜ r .rows ≡ grown rows (cells .rows) (a .rows) ⌝ }
+// Adds to the words of a set its neighbours among the cells, row by row downwards, so that what a row takes in is taken on by the next.
+// Tells whether there were any.
+fn grow(cells: Cells, words: &mut [u32], rows: usize) -> bool
+    requires { ⌜ (rows ≤ 19) × Words (now words) ⌝ }
+    ensures { λ r. ⌜ GrownTo rows (cells .rows) (now (words .entry)) (now (words .exit)) r ⌝ }
 {
-    let mut out = a;
+    let mut more = false;
     for i in 1..rows + 1 {
-        out.rows[i] = grow_row(cells.rows[i], out.rows[i - 1], a.rows[i], a.rows[i + 1]);
-    }
-    out
-}
-
-// Whether two sets have the same words.
-fn same(a: Cells, b: Cells) -> bool
-    ensures { λ r. ⌜ (r ≡ true → a .rows ≡ b .rows) × (r ≡ false → a .rows ≡ b .rows → ⊥) ⌝ }
-{
-    for i in 0..21 {
-        if a.rows[i] != b.rows[i] {
-            return false;
+        let word = grow_row(cells.rows[i], words[i - 1], words[i], words[i + 1]);
+        if word != words[i] {
+            more = true;
         }
+        words[i] = word;
     }
-    true
+    more
 }
 
 // All that a set grows to inside the cells, which stand in the first rows: it grows until it stops growing.
@@ -122,13 +116,11 @@ fn closure(cells: Cells, a: Cells, rows: usize) -> Cells
     requires { ⌜ (rows ≤ 19) × Framed rows (cells .rows) ⌝ }
     ensures { λ r. ⌜ Closure (cells .rows) (a .rows) (r .rows) ⌝ }
 {
-    let mut now = a;
+    let mut words = a.rows;
     loop {
-        let next = grow(cells, now, rows);
-        if same(now, next) {
-            return now;
+        if !grow(cells, &mut words, rows) {
+            return Cells { rows: words };
         }
-        now = next;
     }
 }
 
@@ -152,6 +144,21 @@ fn last_side(board: Board, player: Player) -> Cells
         Player::D => block(1, board.columns, board.rows, board.rows),
         Player::A => block(board.columns, board.columns, 1, board.rows),
     }
+}
+
+// The smallest cell of a set, given those of its places that are on the board; 0 where there is none.
+fn lowest(inside: Cells, board: Board) -> usize
+    requires { ⌜ Fits board ⌝ }
+    ensures { λ r. ⌜ ((s : List ℕ) → Clipped board s (inside .rows) → r ≡ smallest board (held board s)) ⌝ }
+{
+    let columns = board.columns;
+    for i in 1..board.rows + 1 {
+        let word = inside.rows[i];
+        if word != 0 {
+            return (i - 1) * columns + (u32::trailing_zeros(word) as usize);
+        }
+    }
+    0
 }
 
 impl Cells {
@@ -205,15 +212,7 @@ impl Cells {
         requires { ⌜ Fits board ⌝ }
         ensures { λ r. ⌜ r ≡ smallest board (held board (self .rows)) ⌝ }
     {
-        let columns = board.columns;
-        let inside = clipped(self, board);
-        for i in 1..20 {
-            let word = inside.rows[i];
-            if word != 0 {
-                return (i - 1) * columns + (u32::trailing_zeros(word) as usize);
-            }
-        }
-        0
+        lowest(clipped(self, board), board)
     }
 
     // Whether a chain of neighbours inside the set runs from one of the player's sides to the other.
@@ -224,7 +223,7 @@ impl Cells {
         let cells = clipped(self, board);
         let start = merged(cells, first_side(board, player), false);
         let all = closure(cells, start, board.rows);
-        merged(all, last_side(board, player), false).least(board) != 0
+        lowest(merged(all, last_side(board, player), false), board) != 0
     }
 
     // How many cells of the board are in the set.

@@ -1,11 +1,9 @@
 -- `cells::Cells::joins` meets its contract: a chain joins exactly where what the first side grows to has a cell of the last side.
 use borrow.Author.Needs.{needs}
-use mathlib.Core.Path.{_≡_, _∙_, ap}
+use mathlib.Core.Path.{_≡_}
 use mathlib.Core.List.{List}
 use Prim.Native.Nat.{ℕ}
 use lib.ListN.{length}
-use Rattle.rules.specs.Board.{smallest}
-use Rattle.cells.specs.Cells.{held}
 use Rattle.cells.proofs.Reached.{clipped-framed, reached-joined}
 use Rattle.cells.proofs.Cells.joins.Statement.{statement}
 use Rattle.cells.proofs.Cells.joins.Tie as tie
@@ -30,8 +28,8 @@ last-side-requires c κs = search needs
 merged-requires-2 : tie.Need-merged-requires-2
 merged-requires-2 c κs = search needs
 
-least-requires : tie.Need-least-requires
-least-requires c κs = search needs
+lowest-requires : tie.Need-lowest-requires
+lowest-requires c κs = search needs
 
 -- the words of each set on the way are 21
 long-cells : (c : tie.After-clipped) → length (c .clipped .result .rows) ≡ 21
@@ -58,7 +56,7 @@ returns c =
     (c .before .before .before .before .before .before .clipped .ensures) (c .before .before .before .before .before .first-side .ensures)
     (c .before .before .last-side .ensures)
     (rw (c .before .before .before .before .merged .ensures) at (c .before .before .before .closure .ensures))
-    (c .least .result) (c .least .ensures ∙ ap (λ (l : List ℕ). smallest (p .args .board) (held (p .args .board) l)) (c .before .merged2 .ensures))
+    (c .lowest .result) (c .before .merged2 .ensures) (c .lowest .ensures)
 
 pub joins-spec : {M : Type 1} → statement M
 joins-spec =
@@ -70,5 +68,5 @@ joins-spec =
     closure-requires
     last-side-requires
     merged-requires-2
-    least-requires
+    lowest-requires
     returns)
