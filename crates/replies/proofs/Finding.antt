@@ -19,14 +19,14 @@ module _ (bytes after rest : Bytes) (s : Sent) (begins : bytes ++ after ≡ sent
   parts = begins ∙ append-assoc (s .line) (10 ∷ s .text) rest
 
   -- the line feed of its line
-  feed : length (s .line) < length bytes → getD bytes (length (s .line)) 0 ≡ 10
+  pub feed : length (s .line) < length bytes → getD bytes (length (s .line)) 0 ≡ 10
   feed h =
       sym (List·getD-append bytes after 0 (length (s .line)) h)
       ∙ ap (λ (t : Bytes). getD t (length (s .line)) 0) parts
       ∙ getD-append-seam (s .line) 10 (s .text ++ rest) 0
 
   -- and no other before
-  no-feed : (j : ℕ) → j < length (s .line) → j < length bytes → ¬ (getD bytes j 0 ≡ 10)
+  pub no-feed : (j : ℕ) → j < length (s .line) → j < length bytes → ¬ (getD bytes j 0 ≡ 10)
   no-feed j h k e =
       line-no-feed (s .asked) j h
       (sym (List·getD-append (s .line) (10 ∷ (s .text ++ rest)) 0 j h)

@@ -9,3 +9,4 @@ pub mod Answers
 pub mod Moving
 pub mod Lent
 pub mod Samples
+pub mod OneReply

@@ -2,9 +2,8 @@
 -- a blank a tab.)
 use mathlib.Core.Path.{_≡_, refl}
 use Prim.Native.Nat.{ℕ}
-use mathlib.Core.List.{List, [], _∷_, _++_}
+use mathlib.Core.List.{[], _∷_, _++_}
 use Rattle.rules.specs.Words.{oneIf}
-use Rattle.rules.specs.Text.{Bytes}
 use Rattle.rules.specs.Entries.{_>>=_, refuseIf, read, accepted, judged, judge, refusedPlay, playOn, play, named, outcome}
 use Rattle.rules.specs.Samples.{byteOf, sheet}
 use Rattle.report.specs.Decimal.{leading, decimal}
