@@ -10,8 +10,9 @@ use Rattle.rules.specs.Text.{Bytes}
 use Rattle.report.specs.Writing.{Wrote}
 use Rattle.report.proofs.Writing.{wrote-length}
 use Rattle.replies.specs.Reply.{replyOf}
-use Rattle.replies.specs.Answers.{sent, replied, Answers, none, more, WholeIn, AnsweredTo, EndsWith, gatheredAs, GatheredFrom}
-use Rattle.replies.specs.declared.Request.{Request}
+use Rattle.replies.specs.Found.{sent, WholeIn}
+use Rattle.replies.specs.Answers.{replied, Answers, none, more, AnsweredTo, EndsWith, gatheredAs, GatheredFrom}
+use Rattle.replies.specs.declared.requests.Request.{Request}
 use Rattle.replies.specs.declared.Ending.{Ending}
 use Rattle.replies.specs.declared.Gathered.{Gathered}
 

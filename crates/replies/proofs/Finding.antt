@@ -9,8 +9,8 @@ use lib.ListN.{length, getD, take, length-append, length-take, List·getD-append
 use lib.Seq.{getD-append-seam, take-at, take-append-le}
 use Rattle.rules.specs.Text.{Bytes}
 use Rattle.replies.specs.Request.{LineOf}
-use Rattle.replies.specs.Answers.{Sent, sent, NoneBegins, NoneWhole, LineEnd}
-use Rattle.replies.specs.declared.Request.{Request}
+use Rattle.replies.specs.Found.{Sent, sent, NoneBegins, NoneWhole, LineEnd}
+use Rattle.replies.specs.declared.requests.Request.{Request}
 use Rattle.replies.proofs.Reading.{line-one, line-short, line-no-feed}
 
 -- bytes that go on to begin with a request

@@ -7,6 +7,6 @@ pub mod Finding
 pub mod Replying
 pub mod Answers
 pub mod Moving
-pub mod Lent
+pub mod Laid
 pub mod Samples
 pub mod OneReply

@@ -14,10 +14,10 @@ use Rattle.report.specs.Line.{fields}
 use Rattle.report.proofs.Line.{fields-append}
 use Rattle.report.proofs.Decimal.{Every, every-none, every-more, every-append}
 use Rattle.replies.specs.Request.{largest, NumberReply, FieldEnd, CountOf, CountReply}
-use Rattle.replies.specs.declared.CountRead.{CountRead}
-use Rattle.replies.specs.declared.CountRead.the-variants as CountRead
-use Rattle.replies.specs.declared.NumberRead.{NumberRead}
-use Rattle.replies.specs.declared.NumberRead.the-variants as NumberRead
+use Rattle.replies.specs.declared.requests.CountRead.{CountRead}
+use Rattle.replies.specs.declared.requests.CountRead.the-variants as CountRead
+use Rattle.replies.specs.declared.requests.NumberRead.{NumberRead}
+use Rattle.replies.specs.declared.requests.NumberRead.the-variants as NumberRead
 use Rattle.replies.proofs.Fields.{field-one, decimal-whole, numbers-end, Others, fields-others, line-ends, field-split, field-whole}
 
 -- past its end a list reads as 0, so that 0 must have the property too

@@ -7,7 +7,8 @@ use lib.ListN.{length, take, drop, length-append, length-take, length-drop, take
 use lib.Seq.{length-take-le, getD-take, take-append-add, drop-append-le, drop-drop, ext-getD}
 use Rattle.rules.specs.Text.{Bytes}
 use Rattle.sheet.specs.Playing.{Copied}
-use Rattle.replies.specs.Answers.{NoneLies, NoneBegins, NoneWhole, GatheredFrom}
+use Rattle.replies.specs.Found.{NoneLies, NoneBegins, NoneWhole}
+use Rattle.replies.specs.Answers.{GatheredFrom}
 use Rattle.replies.specs.Window.{Within, bytesOf, Moved, Ready, ReadBehind, ReadOn, WentOn, Ended, AnsweredNext}
 use Rattle.replies.specs.declared.Window.{Window}
 use Rattle.replies.specs.declared.Gathered.{Gathered}

@@ -15,8 +15,8 @@ use Rattle.report.specs.Decimal.{decimal}
 use Rattle.report.proofs.Decimal.{decimal-low, decimal-high, Digit, decimal-digits}
 use Rattle.report.proofs.ReadBack.{decimal-spells, decimal-well, spelled-take}
 use Rattle.replies.specs.Request.{largest, Plain, NumberReply}
-use Rattle.replies.specs.declared.NumberRead.{NumberRead}
-use Rattle.replies.specs.declared.NumberRead.the-variants as NumberRead
+use Rattle.replies.specs.declared.requests.NumberRead.{NumberRead}
+use Rattle.replies.specs.declared.requests.NumberRead.the-variants as NumberRead
 
 -- what would make a test true that is false does not hold
 pub refuted : {X : Type 0} (b : Bool) → b ≡ false → (X → b ≡ true) → ¬ X

@@ -9,8 +9,9 @@ use lib.ListN.{length, take, drop, length-append}
 use lib.Seq.{take-at, drop-at}
 use Rattle.rules.specs.Text.{Bytes}
 use Rattle.replies.specs.Request.{LineOf}
-use Rattle.replies.specs.Answers.{Sent, sent, replied, Answers, none, more}
-use Rattle.replies.specs.declared.Request.{Request}
+use Rattle.replies.specs.Found.{Sent, sent}
+use Rattle.replies.specs.Answers.{replied, Answers, none, more}
+use Rattle.replies.specs.declared.requests.Request.{Request}
 use Rattle.replies.proofs.Finding.{feed, no-feed}
 use Rattle.replies.proofs.Reading.{line-one}
 

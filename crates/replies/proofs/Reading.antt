@@ -15,13 +15,13 @@ use Rattle.report.specs.Line.{fields}
 use Rattle.report.proofs.Line.{fields-every, fields-short}
 use Rattle.report.proofs.Decimal.{Every, every-none, every-more, every-append, every-so}
 use Rattle.replies.specs.Request.{nameOf, FieldEnd, CountOf, AskReply, Counted, RequestOf, Asked, RequestReply, LineOf, LineReply}
-use Rattle.replies.specs.declared.Ask.{Ask}
-use Rattle.replies.specs.declared.Ask.the-variants as Ask
-use Rattle.replies.specs.declared.Request.{Request}
-use Rattle.replies.specs.declared.RequestRead.{RequestRead}
-use Rattle.replies.specs.declared.RequestRead.the-variants as RequestRead
-use Rattle.replies.specs.declared.AskRead.{AskRead}
-use Rattle.replies.specs.declared.AskRead.the-variants as AskRead
+use Rattle.replies.specs.declared.requests.Ask.{Ask}
+use Rattle.replies.specs.declared.requests.Ask.the-variants as Ask
+use Rattle.replies.specs.declared.requests.Request.{Request}
+use Rattle.replies.specs.declared.requests.RequestRead.{RequestRead}
+use Rattle.replies.specs.declared.requests.RequestRead.the-variants as RequestRead
+use Rattle.replies.specs.declared.requests.AskRead.{AskRead}
+use Rattle.replies.specs.declared.requests.AskRead.the-variants as AskRead
 use Rattle.replies.proofs.Fields.{Whole, field-one, field-whole, numbers-end, fields-one, line-ends}
 
 -- a word that is none of the three asks nothing

@@ -12,22 +12,13 @@ use Rattle.rules.specs.Entries.{playShown, outcomeShown, roomAfter, PlayKept, O
 use Rattle.rules.specs.declared.Told.{Told}
 use Rattle.rules.specs.declared.Played.{Played}
 use Rattle.rules.specs.declared.Named.{Named}
-use Rattle.report.specs.Decimal.{decimal}
-use Rattle.report.specs.Line.{fields, lineOf, judgeLine}
-use Rattle.report.specs.Writing.{Wrote, WroteWithin}
-use Rattle.report.proofs.Writing.{wrote-then}
-use Rattle.report.proofs.Line.{line-parts}
+use Rattle.report.specs.Line.{judgeLine}
+use Rattle.report.specs.Writing.{Wrote}
 use Rattle.replies.specs.Request.{Counted, RequestOf}
 use Rattle.replies.specs.Reply.{toldLine, playLine, outcomeLine, replyOf}
-use Rattle.replies.specs.declared.Ask.{Ask}
-use Rattle.replies.specs.declared.Ask.the-variants as Ask
-use Rattle.replies.specs.declared.Request.{Request}
-
--- the first number, two lists of others and a line feed are one line
-pub wrote-reply : (n : ℕ) (a b : List ℕ) {most most′ : ℕ} {room : Bytes} {at : ℕ} {room₁ : Bytes} {e₁ : ℕ} {room₂ : Bytes} {e₂ : ℕ} {room₃ : Bytes} {e₃ : ℕ} {room₄ : Bytes} {e₄ : ℕ}
-    → WroteWithin 10 (decimal n) room at room₁ e₁ → WroteWithin most (fields a) room₁ e₁ room₂ e₂ → WroteWithin most′ (fields b) room₂ e₂ room₃ e₃
-    → Wrote (10 ∷ []) room₃ e₃ room₄ e₄ → Wrote (lineOf n (a ++ b)) room at room₄ e₄
-wrote-reply n a b v w x u = rw (line-parts n a b) (wrote-then (wrote-then (wrote-then (v .wrote) (w .wrote)) (x .wrote)) u)
+use Rattle.replies.specs.declared.requests.Ask.{Ask}
+use Rattle.replies.specs.declared.requests.Ask.the-variants as Ask
+use Rattle.replies.specs.declared.requests.Request.{Request}
 
 -- the first n numbers are n at most
 pub take-short : (n m : ℕ) (l : List ℕ) → n ≤ m → length (take n l) ≤ m

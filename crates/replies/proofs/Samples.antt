@@ -10,9 +10,9 @@ use Rattle.report.specs.Decimal.{leading, decimal}
 use Rattle.report.specs.Line.{fields, lineOf, reportLine, judgeLine}
 use Rattle.replies.specs.Request.{nameOf}
 use Rattle.replies.specs.Reply.{playLine, outcomeLine, replyOf}
-use Rattle.replies.specs.declared.Ask.{Ask}
-use Rattle.replies.specs.declared.Ask.the-variants as Ask
-use Rattle.replies.specs.declared.Request.{Request}
+use Rattle.replies.specs.declared.requests.Ask.{Ask}
+use Rattle.replies.specs.declared.requests.Ask.the-variants as Ask
+use Rattle.replies.specs.declared.requests.Request.{Request}
 
 -- a request without memory or text, by what it asks and its numbers
 asking : Ask → (count room : ℕ) → Request

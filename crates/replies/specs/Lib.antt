@@ -1,5 +1,6 @@
 -- What the contracts of the program cite.
 pub mod Request
+pub mod Found
 pub mod Reply
 pub mod Answers
 pub mod Window

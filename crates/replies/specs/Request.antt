@@ -6,17 +6,17 @@ use lib.ListN.{length, getD, take, drop}
 use Rattle.rules.specs.Text.{Bytes}
 use Rattle.report.specs.Decimal.{decimal}
 use Rattle.report.specs.Line.{fields}
-use Rattle.replies.specs.declared.Ask.{Ask}
-use Rattle.replies.specs.declared.Ask.the-variants as Ask
-use Rattle.replies.specs.declared.AskRead.{AskRead}
-use Rattle.replies.specs.declared.AskRead.the-variants as AskRead
-use Rattle.replies.specs.declared.NumberRead.{NumberRead}
-use Rattle.replies.specs.declared.NumberRead.the-variants as NumberRead
-use Rattle.replies.specs.declared.Request.{Request}
-use Rattle.replies.specs.declared.RequestRead.{RequestRead}
-use Rattle.replies.specs.declared.RequestRead.the-variants as RequestRead
-use Rattle.replies.specs.declared.CountRead.{CountRead}
-use Rattle.replies.specs.declared.CountRead.the-variants as CountRead
+use Rattle.replies.specs.declared.requests.Ask.{Ask}
+use Rattle.replies.specs.declared.requests.Ask.the-variants as Ask
+use Rattle.replies.specs.declared.requests.AskRead.{AskRead}
+use Rattle.replies.specs.declared.requests.AskRead.the-variants as AskRead
+use Rattle.replies.specs.declared.requests.NumberRead.{NumberRead}
+use Rattle.replies.specs.declared.requests.NumberRead.the-variants as NumberRead
+use Rattle.replies.specs.declared.requests.Request.{Request}
+use Rattle.replies.specs.declared.requests.RequestRead.{RequestRead}
+use Rattle.replies.specs.declared.requests.RequestRead.the-variants as RequestRead
+use Rattle.replies.specs.declared.requests.CountRead.{CountRead}
+use Rattle.replies.specs.declared.requests.CountRead.the-variants as CountRead
 
 -- the words `judge`, `play` and `outcome`
 abbrev pub nameOf : Ask → Bytes

@@ -72,17 +72,15 @@ writing-end {numbers} {room₀} {room} {at} {end} {i} w h =
     let e : i ≡ length numbers = omega arith in
     record { wrote = rw (take-all i numbers h) at (w .within .wrote); short = omega arith }
 
--- a line whose further numbers come in two lists, as it is written part by part
-pub line-parts : (n : ℕ) (a b : List ℕ) → lineOf n (a ++ b) ≡ decimal n ++ fields a ++ fields b ++ 10 ∷ []
+-- a line is its first number, two lists of others and a line feed
+line-parts : (n : ℕ) (a b : List ℕ) → lineOf n (a ++ b) ≡ decimal n ++ fields a ++ fields b ++ 10 ∷ []
 unfolding lineOf
 line-parts n a b = rw (fields-append a b, ← append-assoc)
 
--- a line is its first number, the others and a line feed
-pub wrote-line : (n : ℕ) (ns : List ℕ) {most : ℕ} {room : List ℕ} {at : ℕ} {room₁ : List ℕ} {e₁ : ℕ} {room₂ : List ℕ} {e₂ : ℕ} {room₃ : List ℕ} {e₃ : ℕ}
-    → WroteWithin 10 (decimal n) room at room₁ e₁ → WroteWithin most (fields ns) room₁ e₁ room₂ e₂ → Wrote (10 ∷ []) room₂ e₂ room₃ e₃
-    → Wrote (lineOf n ns) room at room₃ e₃
-unfolding lineOf
-wrote-line n ns v w u = wrote-then (wrote-then (v .wrote) (w .wrote)) u
+pub wrote-line : (n : ℕ) (a b : List ℕ) {most most′ : ℕ} {room : Bytes} {at : ℕ} {room₁ : Bytes} {e₁ : ℕ} {room₂ : Bytes} {e₂ : ℕ} {room₃ : Bytes} {e₃ : ℕ} {room₄ : Bytes} {e₄ : ℕ}
+    → WroteWithin 10 (decimal n) room at room₁ e₁ → WroteWithin most (fields a) room₁ e₁ room₂ e₂ → WroteWithin most′ (fields b) room₂ e₂ room₃ e₃
+    → Wrote (10 ∷ []) room₃ e₃ room₄ e₄ → Wrote (lineOf n (a ++ b)) room at room₄ e₄
+wrote-line n a b v w x u = rw (line-parts n a b) (wrote-then (wrote-then (wrote-then (v .wrote) (w .wrote)) (x .wrote)) u)
 
 -- the judging program's line is that of what is told
 pub wrote-report : {t s : Told} {room : List ℕ} {at : ℕ} {room′ : List ℕ} {n : ℕ} → t ≡ s

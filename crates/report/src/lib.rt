@@ -1,7 +1,7 @@
 // report: what the programs print of a verdict: its numbers, in decimal, parted by tabs on one line. It sees rules.
 ghost use mathlib.Core.Path.{_≡_};
 ghost use Prim.Native.Nat.{_+_, _*_, _<_, _≤_};
-ghost use mathlib.Core.List.{[], _∷_};
+ghost use mathlib.Core.List.{[], _∷_, _++_};
 ghost use lib.ListN.{length};
 ghost use Rattle.rules.specs.Words.{oneIf};
 ghost use Rattle.rules.specs.Verdict.{told, toldAs};
@@ -115,13 +115,14 @@ pub fn write_fields(room: &mut [u8], at: usize, numbers: &[u32]) -> usize
     end
 }
 
-// Writes a line of numbers, and returns the place after it.
-pub fn write_line(room: &mut [u8], at: usize, first: u32, others: &[u32]) -> usize
-    requires { ⌜ at + 11 * length (now others) + 11 ≤ length (now room) ⌝ }
-    ensures { λ r. ⌜ Wrote (lineOf first (now (others .entry))) (now (room .entry)) at (now (room .exit)) r ⌝ }
+// Writes a line of numbers, the further ones from two lists, and returns the place after it.
+pub fn write_line(room: &mut [u8], at: usize, first: u32, others: &[u32], listed: &[u32]) -> usize
+    requires { ⌜ at + 11 * length (now others) + 11 * length (now listed) + 11 ≤ length (now room) ⌝ }
+    ensures { λ r. ⌜ Wrote (lineOf first (now (others .entry) ++ now (listed .entry))) (now (room .entry)) at (now (room .exit)) r ⌝ }
 {
     let after = write_number(room, at, first);
-    let last = write_fields(room, after, others);
+    let middle = write_fields(room, after, others);
+    let last = write_fields(room, middle, listed);
     write_byte(room, last, b'\n')
 }
 
@@ -131,13 +132,7 @@ pub fn report(room: &mut [u8], at: usize, v: Verdict) -> usize
     ensures { λ r. ⌜ Wrote (reportLine (told v)) (now (room .entry)) at (now (room .exit)) r ⌝ }
 {
     let told = tell(v);
-    let others = [
-        told.line,
-        told.cell,
-        told.index,
-        told.moves,
-        told.waits,
-        told.outcomes,
-    ];
-    write_line(room, at, told.number, &others)
+    let place = [told.line, told.cell, told.index];
+    let counts = [told.moves, told.waits, told.outcomes];
+    write_line(room, at, told.number, &place, &counts)
 }

@@ -2,7 +2,7 @@
 use borrow.Author.Needs.{needs}
 use borrow.Author.Tests.{not-true}
 use Rattle.report.proofs.Line.{wrote-judge}
-use Rattle.replies.proofs.Lent.{workspace-never}
+use Rattle.replies.proofs.Laid.{workspace-never}
 use Rattle.replies.proofs.write_judge.Statement.{statement}
 use Rattle.replies.proofs.write_judge.Tie as tie
 

@@ -6,7 +6,7 @@ use borrow.Author.Needs.{needs}
 use borrow.Author.Tests.{not-true, not-false}
 use Rattle.rules.specs.declared.Told.{Told}
 use Rattle.rules.proofs.Small.{outcome-few}
-use Rattle.replies.proofs.Lent.{outcome-never}
+use Rattle.replies.proofs.Laid.{outcome-never}
 use Rattle.replies.proofs.Replying.{reply-fits, wrote-outcome}
 use Rattle.replies.proofs.write_outcome.Statement.{statement}
 use Rattle.replies.proofs.write_outcome.Tie as tie
@@ -18,17 +18,17 @@ say-memory-requires c κs =
 narrow-requires : tie.Need-narrow-requires
 narrow-requires c κs = outcome-few (c .before .before .before .before .before .before .before .before .before .outcome .ensures)
 
-slice-reshare-prefix-write-reply : tie.Need-slice-reshare-prefix-write-reply
-slice-reshare-prefix-write-reply c = c .before .before .before .before .lent-right .ensures .0 (not-false _ (c .before .before .before .if1 .left))
+slice-reshare-prefix-write-line : tie.Need-slice-reshare-prefix-write-line
+slice-reshare-prefix-write-line c = c .before .before .before .before .lent-right .ensures .0 (not-false _ (c .before .before .before .if1 .left))
 
-slice-aggregate-write-reply-2 : tie.Need-slice-aggregate-write-reply-2
-slice-aggregate-write-reply-2 c = sym (length-take-le _ _ (c .before .before .before .before .before .lent-right .ensures .0 (not-false _ (c .before .before .before .before .if1 .left))))
+slice-aggregate-write-line-2 : tie.Need-slice-aggregate-write-line-2
+slice-aggregate-write-line-2 c = sym (length-take-le _ _ (c .before .before .before .before .before .lent-right .ensures .0 (not-false _ (c .before .before .before .before .if1 .left))))
 
-write-reply-requires : tie.Need-write-reply-requires
-write-reply-requires c κs = reply-fits (c .before .before .before .before .before .before .before .before .before .before .before .before .before .outcome .result .cells) _ _ 44 (search needs) (omega (arith, c .before .before .before .before .before .before .before .before .before .before .before .before .before .before .before .before .before .before .before .before .pre .0 .0, c .before .before .before .before .before .lent-right .ensures .0 (not-false _ (c .before .before .before .before .if1 .left)))) (omega arith)
+write-line-requires : tie.Need-write-line-requires
+write-line-requires c κs = reply-fits (c .before .before .before .before .before .before .before .before .before .before .before .before .before .outcome .result .cells) _ _ 44 (search needs) (omega (arith, c .before .before .before .before .before .before .before .before .before .before .before .before .before .before .before .before .before .before .before .before .pre .0 .0, c .before .before .before .before .before .lent-right .ensures .0 (not-false _ (c .before .before .before .before .if1 .left)))) (omega arith)
 
 returns-2 : tie.Need-returns-2
-returns-2 c = wrote-outcome (c .before .before .before .before .before .before .before .before .before .before .before .before .before .before .before .before .outcome .ensures) (c .before .before .before .before .before .before .before .before .before .before .before .tell .ensures) (c .before .before .before .before .before .before .narrow .ensures) (c .before .before .write-reply .ensures)
+returns-2 c = wrote-outcome (c .before .before .before .before .before .before .before .before .before .before .before .before .before .before .before .before .outcome .ensures) (c .before .before .before .before .before .before .before .before .before .before .before .tell .ensures) (c .before .before .before .before .before .before .narrow .ensures) (c .before .before .write-line .ensures)
 
 pub write-outcome-spec : {M : Type 1} → statement M
 write-outcome-spec =
@@ -44,9 +44,9 @@ write-outcome-spec =
     (λ c. search needs)
     narrow-requires
     (λ c. search needs)
-    slice-reshare-prefix-write-reply
-    slice-aggregate-write-reply-2
-    write-reply-requires
+    slice-reshare-prefix-write-line
+    slice-aggregate-write-line-2
+    write-line-requires
     (λ c. search needs)
     (λ c. search needs)
     (λ c. search needs)

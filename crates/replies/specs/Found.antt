@@ -1,0 +1,57 @@
+-- The requests that lie in some bytes.
+use mathlib.Core.Path.{_≡_}
+use Prim.Native.Nat.{ℕ, _+_, _<_, _≤_}
+use mathlib.Core.List.{List, _∷_, _++_}
+use lib.ListN.{length, getD, take}
+use Rattle.rules.specs.Text.{Bytes}
+use Rattle.replies.specs.Request.{FirstPlace, LineOf}
+use Rattle.replies.specs.declared.requests.Request.{Request}
+use Rattle.replies.specs.declared.requests.Found.{Found}
+use Rattle.replies.specs.declared.requests.Found.the-variants as Found
+
+-- a request as it is sent: its line, and the text of its sheet
+pub record Sent : Type 0 where
+  pub line : Bytes
+  pub numbers : List ℕ
+  pub request : Request
+  pub text : Bytes
+  pub asked : LineOf line numbers request
+  pub size : length text ≡ request .bytes
+
+-- the bytes of a request: the line, a line feed, and the text
+abbrev pub sent : Sent → Bytes
+sent s = s .line ++ 10 ∷ s .text
+
+-- no request lies whole at the front of the bytes
+abbrev pub NoneLies : Bytes → Type 0
+NoneLies bytes = (s : Sent) (rest : Bytes) → ¬ (bytes ≡ sent s ++ rest)
+
+-- whatever follows, the bytes do not begin with a request
+abbrev pub NoneBegins : Bytes → Type 0
+NoneBegins bytes = (s : Sent) (after rest : Bytes) → ¬ (bytes ++ after ≡ sent s ++ rest)
+
+-- no request lies whole at the front of the bytes, and they are fewer than the longest request has
+pub record NoneWhole (bytes : Bytes) : Type 0 where
+  pub none : NoneLies bytes
+  pub short : length bytes < 69974
+
+-- the first line feed is at `end`, or the bytes have none and end there, or no line of a request is so long
+pub record LineEnd (bytes : Bytes) (end : ℕ) : Type 0 where
+  pub limit : ℕ
+  pub short : limit ≤ 4437
+  pub inside : limit ≤ length bytes
+  pub far : limit < length bytes → limit ≡ 4437
+  pub place : FirstPlace 10 bytes 0 limit end
+
+-- a request at the front of the bytes, whose text begins at a place
+pub record WholeIn (bytes : Bytes) (numbers : List ℕ) (r : Request) (text : ℕ) : Type 0 where
+  pub end : ℕ
+  pub after : text ≡ end + 1
+  pub feed : getD bytes end 0 ≡ 10
+  pub line : LineOf (take end bytes) (take (r .count) numbers) r
+  pub fits : text + r .bytes ≤ length bytes
+
+abbrev pub FoundIn : Bytes → List ℕ → Found → Type 0
+FoundIn bytes numbers (Found.Whole r text) = WholeIn bytes numbers r text
+FoundIn bytes numbers Found.Partial = NoneWhole bytes
+FoundIn bytes numbers Found.Malformed = NoneBegins bytes
