@@ -39,7 +39,7 @@ answered-to {bytes} {numbers} {r} {text} w h =
         size = omega (arith, length-take (text + r .bytes - text) (drop text bytes), length-drop text bytes, w .fits);
       };
       inside = w .fits;
-      taken = request-bytes bytes (w .end) text (r .bytes) (w .after) (w .feed) (w .fits);
+      taken = request-bytes bytes (w .end) text (r .bytes) (w .after) (w .first .place .stops (w .first .inside)) (w .fits);
       wrote = h;
     }
 

@@ -1,6 +1,6 @@
 -- The first request of some bytes: where its line ends, and when there is none.
-use mathlib.Core.Path.{_≡_, sym, ap, subst, _∙_}
-use Prim.Native.Nat.{ℕ, _+_, _-_, _<_, _≤_}
+use mathlib.Core.Path.{_≡_, refl, sym, ap, subst, _∙_}
+use Prim.Native.Nat.{ℕ, _-_, _<_, _≤_}
 use mathlib.Core.List.{List, [], _∷_, _++_, append-assoc, append-nil}
 use mathlib.Core.Logic.{_⊎_, inl, inr, ⊎-elim}
 use native.Mathlib.Nat.{eq-zero-or-pos}
@@ -9,7 +9,9 @@ use lib.ListN.{length, getD, take, length-append, length-take, List·getD-append
 use lib.Seq.{getD-append-seam, take-at, take-append-le}
 use Rattle.rules.specs.Text.{Bytes}
 use Rattle.replies.specs.Request.{LineOf}
-use Rattle.replies.specs.Found.{Sent, sent, NoneBegins, NoneWhole, LineEnd}
+use Rattle.replies.specs.Found.{Sent, sent, NoneLies, NoneBegins, LineEnd, FirstLine, WholeIn, PartialIn, in-line, in-text, MalformedIn, no-request, too-long, FoundIn}
+use Rattle.replies.specs.declared.requests.Found.{Found}
+use Rattle.replies.specs.declared.requests.Found.the-variants as Found
 use Rattle.replies.specs.declared.requests.Request.{Request}
 use Rattle.replies.proofs.Reading.{line-one, line-short, line-no-feed}
 
@@ -35,55 +37,99 @@ module _ (bytes after rest : Bytes) (s : Sent) (begins : bytes ++ after ≡ sent
       ∙ e)
 
   -- so the bytes up to their first line feed are the line
-  same-line : {end : ℕ} → LineEnd bytes end → end < length bytes → getD bytes end 0 ≡ 10 → s .line ≡ take end bytes
-  same-line {end} l h e = by-place (eq-zero-or-pos (length (s .line) - end)) (eq-zero-or-pos (end - length (s .line)))
+  same-line : {end : ℕ} → FirstLine bytes end → s .line ≡ take end bytes
+  same-line {end} l = by-place (eq-zero-or-pos (length (s .line) - end)) (eq-zero-or-pos (end - length (s .line)))
     where
       by-place : (length (s .line) - end ≡ 0) ⊎ (0 < length (s .line) - end) → (end - length (s .line) ≡ 0) ⊎ (0 < end - length (s .line)) → s .line ≡ take end bytes
-      by-place (inr p) q = absurd (no-feed end (omega arith) h e)
-      by-place (inl p) (inr q) = absurd (l .place .next (length (s .line)) (omega arith) (omega (arith, l .place .inside)) (feed (omega arith)))
+      by-place (inr p) q = absurd (no-feed end (omega arith) (l .inside) (l .place .stops (l .inside)))
+      by-place (inl p) (inr q) = absurd (l .place .next (length (s .line)) (omega arith) (omega arith) (feed (omega (arith, l .inside))))
       by-place (inl p) (inl q) =
-          sym (take-at (s .line) (10 ∷ (s .text ++ rest)) end (omega arith)) ∙ sym (ap (take end) parts) ∙ take-append-le end bytes after (omega arith)
+          sym (take-at (s .line) (10 ∷ (s .text ++ rest)) end (omega arith)) ∙ sym (ap (take end) parts) ∙ take-append-le end bytes after (omega (arith, l .inside))
 
--- the bytes end before a line feed
-pub no-line : {bytes : Bytes} {end : ℕ} → LineEnd bytes end → length bytes ≤ end → NoneWhole bytes
-no-line {bytes} {end} l h =
-    record {
-      none = λ s rest e.
-          let f : bytes ++ [] ≡ sent s ++ rest = append-nil bytes ∙ e in
-          let size : length (s .line) < length bytes = omega (arith, ap length e, length-append (sent s) rest, length-append (s .line) (10 ∷ s .text)) in
-          l .place .next (length (s .line)) (omega arith) (omega (arith, l .place .inside)) (feed bytes [] rest s f size);
-      short = omega (arith, l .short);
-    }
+-- where the code's search for a line feed ended: with the bytes, at one, or where no request's line is so long
+pub line-partial : {bytes : Bytes} {end : ℕ} → LineEnd bytes end → length bytes ≤ end → PartialIn bytes
+line-partial l h = in-line (omega (arith, l .short, l .place .inside)) (λ j k. l .place .next j (omega arith) (omega arith))
 
--- the line is longer than any request's
-pub long-line : {bytes : Bytes} {end : ℕ} → LineEnd bytes end → end < length bytes → ¬ (getD bytes end 0 ≡ 10) → NoneBegins bytes
-long-line {bytes} {end} l h n s after rest e =
-    let short = line-short (s .asked) in
+pub line-first : {bytes : Bytes} {end : ℕ} → LineEnd bytes end → end < length bytes → getD bytes end 0 ≡ 10 → FirstLine bytes end
+line-first l h e = record { inside = h; place = record { on = omega arith; inside = omega arith; stops = λ _. e; next = l .place .next } }
+
+pub line-long : {bytes : Bytes} {end : ℕ} → LineEnd bytes end → end < length bytes → ¬ (getD bytes end 0 ≡ 10) → MalformedIn bytes
+line-long {bytes} {end} l h n =
     let limit : l .limit ≤ end = ⊎-elim (λ z. omega arith) (λ p. absurd (n (l .place .stops (omega arith)))) (eq-zero-or-pos (l .limit - end)) in
     let far : l .limit ≡ 4437 = l .far (omega (arith, l .place .inside)) in
+    too-long (omega arith)
+    (λ j k e.
     ⊎-elim
-    (λ z.
-    let same : length (s .line) ≡ end = omega arith in
-    n (subst (λ (j : ℕ). getD bytes j 0 ≡ 10) same (feed bytes after rest s e (omega arith))))
-    (λ p. l .place .next (length (s .line)) (omega arith) (omega (arith, l .place .inside)) (feed bytes after rest s e (omega arith)))
-    (eq-zero-or-pos (end - length (s .line)))
+    (λ z. let same : j ≡ end = omega (arith, l .place .inside) in n (subst (λ (i : ℕ). getD bytes i 0 ≡ 10) same e))
+    (λ p. l .place .next j (omega arith) (omega arith) e)
+    (eq-zero-or-pos (end - j)))
 
--- the line is no request's
-pub other-line : {bytes : Bytes} {end : ℕ} → LineEnd bytes end → end < length bytes → getD bytes end 0 ≡ 10
-    → ((ns : List ℕ) (r : Request) → ¬ LineOf (take end bytes) ns r) → NoneBegins bytes
-other-line {bytes} {end} l h e n s after rest begins =
-    n (s .numbers) (s .request) (subst (λ (t : Bytes). LineOf t (s .numbers) (s .request)) (same-line bytes after rest s begins l h e) (s .asked))
+-- where the bytes end in a request, none lies whole in them, and they are fewer than the longest has
+pub partial-none : {bytes : Bytes} → PartialIn bytes → NoneLies bytes
+partial-none {bytes} (in-line few none) s rest e =
+    let size : length (s .line) < length bytes = omega (arith, ap length e, length-append (sent s) rest, length-append (s .line) (10 ∷ s .text)) in
+    none (length (s .line)) size (feed bytes [] rest s (append-nil bytes ∙ e) size)
+partial-none {bytes} (in-text end ns r l line few) s rest e =
+    let same = same-line bytes [] rest s (append-nil bytes ∙ e) l in
+    let one : s .request ≡ r = line-one (subst (λ (t : Bytes). LineOf t (s .numbers) (s .request)) same (s .asked)) line .1 in
+    let size : length (s .text) ≡ r .bytes = s .size ∙ ap (λ (q : Request). q .bytes) one in
+    omega (arith, few, ap length e, length-append (sent s) rest, length-append (s .line) (10 ∷ s .text), ap length same, length-take end bytes, l .inside)
 
--- the bytes end in the text
-pub short-text : {bytes : Bytes} {end : ℕ} {ns : List ℕ} {r : Request} → LineEnd bytes end → end < length bytes → getD bytes end 0 ≡ 10
-    → LineOf (take end bytes) ns r → length bytes - (end + 1) < r .bytes → NoneWhole bytes
-short-text {bytes} {end} {ns} {r} l h e line few =
-    record {
-      none = λ s rest f.
-          let begins : bytes ++ [] ≡ sent s ++ rest = append-nil bytes ∙ f in
-          let same = same-line bytes [] rest s begins l h e in
-          let one : s .request ≡ r = line-one (subst (λ (t : Bytes). LineOf t (s .numbers) (s .request)) same (s .asked)) line .1 in
-          let size : length (s .text) ≡ r .bytes = s .size ∙ ap (λ (q : Request). q .bytes) one in
-          omega (arith, ap length f, length-append (sent s) rest, length-append (s .line) (10 ∷ s .text), ap length same, length-take end bytes);
-      short = omega (arith, l .short, line .means .bytes-within);
-    }
+pub partial-short : {bytes : Bytes} → PartialIn bytes → length bytes < 69974
+partial-short (in-line few none) = omega arith
+partial-short {bytes} (in-text end ns r l line few) = omega (arith, line-short line, length-take end bytes, l .inside, line .means .bytes-within)
+
+-- where the first line is malformed, no request begins so, whatever follows
+pub malformed-begins : {bytes : Bytes} → MalformedIn bytes → NoneBegins bytes
+malformed-begins {bytes} (no-request end l none) s after rest e =
+    none (s .numbers) (s .request) (subst (λ (t : Bytes). LineOf t (s .numbers) (s .request)) (same-line bytes after rest s e l) (s .asked))
+malformed-begins {bytes} (too-long far none) s after rest e =
+    let short = line-short (s .asked) in
+    none (length (s .line)) short (feed bytes after rest s e (omega arith))
+
+-- a first line ends at one place
+first-one : {bytes : Bytes} {e f : ℕ} → FirstLine bytes e → FirstLine bytes f → e ≡ f
+first-one {bytes} {e} {f} l m = by-place (eq-zero-or-pos (e - f)) (eq-zero-or-pos (f - e))
+  where
+    by-place : (e - f ≡ 0) ⊎ (0 < e - f) → (f - e ≡ 0) ⊎ (0 < f - e) → e ≡ f
+    by-place (inl p) (inl q) = omega arith
+    by-place (inr p) q = absurd (l .place .next f (omega arith) (omega arith) (m .place .stops (m .inside)))
+    by-place (inl p) (inr q) = absurd (m .place .next e (omega arith) (omega arith) (l .place .stops (l .inside)))
+
+module _ {bytes : Bytes} {ns : List ℕ} {r : Request} {text : ℕ} (w : WholeIn bytes ns r text) where
+  short-end : w .end ≤ 4437
+  short-end = omega (arith, line-short (w .line), length-take (w .end) bytes, w .first .inside)
+
+  whole-partial : ¬ PartialIn bytes
+  whole-partial (in-line few none) = none (w .end) (w .first .inside) (w .first .place .stops (w .first .inside))
+  whole-partial (in-text end ms p l line few) =
+      let same = first-one (w .first) l in
+      let one : r ≡ p = line-one (subst (λ (e : ℕ). LineOf (take e bytes) _ r) same (w .line)) line .1 in
+      omega (arith, few, w .fits, w .after, ap (λ (q : Request). q .bytes) one)
+
+  whole-malformed : ¬ MalformedIn bytes
+  whole-malformed (no-request end l none) = none _ r (subst (λ (e : ℕ). LineOf (take e bytes) _ r) (first-one (w .first) l) (w .line))
+  whole-malformed (too-long far none) = none (w .end) short-end (w .first .place .stops (w .first .inside))
+
+partial-malformed : {bytes : Bytes} → PartialIn bytes → ¬ MalformedIn bytes
+partial-malformed (in-line few none) (no-request end l other) = none end (l .inside) (l .place .stops (l .inside))
+partial-malformed (in-line few none) (too-long far other) = omega arith
+partial-malformed {bytes} (in-text end ns r l line few) (no-request other m none) = none ns r (subst (λ (e : ℕ). LineOf (take e bytes) ns r) (first-one l m) line)
+partial-malformed {bytes} (in-text end ns r l line few) (too-long far none) =
+    none end (omega (arith, line-short line, length-take end bytes, l .inside)) (l .place .stops (l .inside))
+
+-- two replies allowed for the same bytes are equal
+pub one-found : (bytes : Bytes) (ns ms : List ℕ) (f g : Found) → FoundIn bytes ns f → FoundIn bytes ms g → f ≡ g
+one-found bytes ns ms (Found.Whole r t) (Found.Whole p u) w v =
+    let same = first-one (w .first) (v .first) in
+    let one : r ≡ p = line-one (subst (λ (e : ℕ). LineOf (take e bytes) _ r) same (w .line)) (v .line) .1 in
+    let texts : t ≡ u = omega (arith, w .after, v .after) in
+    cc
+one-found bytes ns ms (Found.Whole r t) Found.Partial w v = absurd (whole-partial w v)
+one-found bytes ns ms (Found.Whole r t) Found.Malformed w v = absurd (whole-malformed w v)
+one-found bytes ns ms Found.Partial (Found.Whole r t) w v = absurd (whole-partial v w)
+one-found bytes ns ms Found.Partial Found.Partial w v = refl
+one-found bytes ns ms Found.Partial Found.Malformed w v = absurd (partial-malformed w v)
+one-found bytes ns ms Found.Malformed (Found.Whole r t) w v = absurd (whole-malformed v w)
+one-found bytes ns ms Found.Malformed Found.Partial w v = absurd (partial-malformed v w)
+one-found bytes ns ms Found.Malformed Found.Malformed w v = refl

@@ -7,9 +7,9 @@ use lib.ListN.{length, take, drop, length-append, length-take, length-drop, take
 use lib.Seq.{length-take-le, getD-take, take-append-add, drop-append-le, drop-drop, ext-getD}
 use Rattle.rules.specs.Text.{Bytes}
 use Rattle.sheet.specs.Playing.{Copied}
-use Rattle.replies.specs.Found.{NoneLies, NoneBegins, NoneWhole}
+use Rattle.replies.specs.Found.{NoneLies, NoneBegins}
 use Rattle.replies.specs.Answers.{GatheredFrom}
-use Rattle.replies.specs.Window.{Within, bytesOf, Moved, Ready, ReadBehind, ReadOn, WentOn, Ended, AnsweredNext}
+use Rattle.replies.specs.Window.{Within, bytesOf, Moved, Ready, ReadBehind, ReadOn, TakenFrom, WentOn, Ended, AnsweredNext}
 use Rattle.replies.specs.declared.Window.{Window}
 use Rattle.replies.specs.declared.Gathered.{Gathered}
 use Rattle.replies.specs.declared.Answered.{Answered}
@@ -97,32 +97,30 @@ module _ {buffer : Bytes} {w : Window} {replies : Bytes} {g : Gathered} (h : Wit
       ∙ rw (n, drop-drop (g .taken) (w .start) buffer))
 
   -- what is left is shorter than the buffer, where no request is whole
-  pub beyond-short : NoneWhole (drop (g .taken) (bytesOf buffer w)) → 69974 ≤ length buffer → w .end < w .start + g .taken + length buffer
-  beyond-short none long = omega (arith, none .short, ap length beyond-bytes, bytes-long buffer (beyond w (g .taken)) beyond-within)
+  pub beyond-short : length (drop (g .taken) (bytesOf buffer w)) < 69974 → 69974 ≤ length buffer → w .end < w .start + g .taken + length buffer
+  beyond-short short long = omega (arith, short, ap length beyond-bytes, bytes-long buffer (beyond w (g .taken)) beyond-within)
+
+  taken-from : TakenFrom buffer w (drop (g .taken) (bytesOf buffer w))
+  taken-from =
+      record {
+        asked = take (g .taken) (bytesOf buffer w);
+        said = take (g .said) replies;
+        answers = k .answers;
+        before = sym (take-append-drop (g .taken) (bytesOf buffer w));
+      }
 
   pub went-on : {buffer′ : Bytes} {w′ : Window} → ReadBehind buffer (beyond w (g .taken)) buffer′ w′ → WentOn buffer w buffer′ w′
   went-on r =
       record {
         within = r .within;
-        asked = take (g .taken) (bytesOf buffer w);
-        said = take (g .said) replies;
         left = drop (g .taken) (bytesOf buffer w);
         more = r .more;
-        answers = k .answers;
-        before = sym (take-append-drop (g .taken) (bytesOf buffer w));
+        taken = taken-from;
         after = r .behind ∙ ap (λ (t : Bytes). t ++ r .more) beyond-bytes;
       }
 
   pub ended : NoneLies (drop (g .taken) (bytesOf buffer w)) → Ended buffer w
-  ended none =
-      record {
-        asked = take (g .taken) (bytesOf buffer w);
-        said = take (g .said) replies;
-        left = drop (g .taken) (bytesOf buffer w);
-        answers = k .answers;
-        before = sym (take-append-drop (g .taken) (bytesOf buffer w));
-        none = none;
-      }
+  ended none = record { left = drop (g .taken) (bytesOf buffer w); taken = taken-from; none = none }
 
   pub read-went-on : (buffer′ : Bytes) (a : Answered) → NoneLies (drop (g .taken) (bytesOf buffer w)) → ReadOn buffer (beyond w (g .taken)) buffer′ a → AnsweredNext buffer w buffer′ a
   read-went-on buffer′ (Answered.On w′) none r = went-on r

@@ -5,7 +5,7 @@ use mathlib.Core.List.{[], _++_}
 use lib.ListN.{length, take, drop}
 use Rattle.rules.specs.Text.{Bytes}
 use Rattle.report.specs.Writing.{Wrote}
-use Rattle.replies.specs.Found.{Sent, sent, NoneBegins, NoneWhole}
+use Rattle.replies.specs.Found.{Sent, sent, PartialIn, MalformedIn}
 use Rattle.replies.specs.Reply.{replyOf}
 use Rattle.replies.specs.declared.Answer.{Answer}
 use Rattle.replies.specs.declared.Answer.the-variants as Answer
@@ -37,13 +37,13 @@ pub record AnsweredTo (bytes replies : Bytes) (at : ℕ) (replies′ : Bytes) (n
 -- otherwise the replies are as they were
 abbrev pub AnswerOf : (bytes replies : Bytes) (at : ℕ) (replies′ : Bytes) → Answer → Type 0
 AnswerOf bytes replies at replies′ (Answer.Got next end) = AnsweredTo bytes replies at replies′ next end
-AnswerOf bytes replies at replies′ Answer.Partial = (replies′ ≡ replies) × NoneWhole bytes
-AnswerOf bytes replies at replies′ Answer.Malformed = (replies′ ≡ replies) × NoneBegins bytes
+AnswerOf bytes replies at replies′ Answer.Partial = (replies′ ≡ replies) × PartialIn bytes
+AnswerOf bytes replies at replies′ Answer.Malformed = (replies′ ≡ replies) × MalformedIn bytes
 
 -- what is left of the bytes where no further request was answered
 abbrev pub EndsWith : Bytes → Ending → Type 0
-EndsWith rest Ending.Partial = NoneWhole rest
-EndsWith rest Ending.Malformed = NoneBegins rest
+EndsWith rest Ending.Partial = PartialIn rest
+EndsWith rest Ending.Malformed = MalformedIn rest
 EndsWith rest Ending.Full = Unit {0}
 
 abbrev pub gatheredAs : (taken said : ℕ) → Ending → Gathered

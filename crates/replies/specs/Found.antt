@@ -30,11 +30,6 @@ NoneLies bytes = (s : Sent) (rest : Bytes) → ¬ (bytes ≡ sent s ++ rest)
 abbrev pub NoneBegins : Bytes → Type 0
 NoneBegins bytes = (s : Sent) (after rest : Bytes) → ¬ (bytes ++ after ≡ sent s ++ rest)
 
--- no request lies whole at the front of the bytes, and they are fewer than the longest request has
-pub record NoneWhole (bytes : Bytes) : Type 0 where
-  pub none : NoneLies bytes
-  pub short : length bytes < 69974
-
 -- the first line feed is at `end`, or the bytes have none and end there, or no line of a request is so long
 pub record LineEnd (bytes : Bytes) (end : ℕ) : Type 0 where
   pub limit : ℕ
@@ -43,15 +38,30 @@ pub record LineEnd (bytes : Bytes) (end : ℕ) : Type 0 where
   pub far : limit < length bytes → limit ≡ 4437
   pub place : FirstPlace 10 bytes 0 limit end
 
+-- the first line of the bytes ends at a line feed
+pub record FirstLine (bytes : Bytes) (end : ℕ) : Type 0 where
+  pub inside : end < length bytes
+  pub place : FirstPlace 10 bytes 0 (length bytes) end
+
 -- a request at the front of the bytes, whose text begins at a place
 pub record WholeIn (bytes : Bytes) (numbers : List ℕ) (r : Request) (text : ℕ) : Type 0 where
   pub end : ℕ
-  pub after : text ≡ end + 1
-  pub feed : getD bytes end 0 ≡ 10
+  pub first : FirstLine bytes end
   pub line : LineOf (take end bytes) (take (r .count) numbers) r
+  pub after : text ≡ end + 1
   pub fits : text + r .bytes ≤ length bytes
+
+-- the bytes end in a line that may go on, or in the text of a request
+pub data PartialIn (bytes : Bytes) : Type 0 where
+  in-line : length bytes ≤ 4437 → ((j : ℕ) → j < length bytes → ¬ (getD bytes j 0 ≡ 10)) → PartialIn bytes
+  in-text : (end : ℕ) (ns : List ℕ) (r : Request) → FirstLine bytes end → LineOf (take end bytes) ns r → length bytes < end + 1 + r .bytes → PartialIn bytes
+
+-- the first line is no request's, or goes on where the longest of a request ends
+pub data MalformedIn (bytes : Bytes) : Type 0 where
+  no-request : (end : ℕ) → FirstLine bytes end → ((ns : List ℕ) (r : Request) → ¬ LineOf (take end bytes) ns r) → MalformedIn bytes
+  too-long : 4437 < length bytes → ((j : ℕ) → j ≤ 4437 → ¬ (getD bytes j 0 ≡ 10)) → MalformedIn bytes
 
 abbrev pub FoundIn : Bytes → List ℕ → Found → Type 0
 FoundIn bytes numbers (Found.Whole r text) = WholeIn bytes numbers r text
-FoundIn bytes numbers Found.Partial = NoneWhole bytes
-FoundIn bytes numbers Found.Malformed = NoneBegins bytes
+FoundIn bytes numbers Found.Partial = PartialIn bytes
+FoundIn bytes numbers Found.Malformed = MalformedIn bytes

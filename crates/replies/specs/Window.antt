@@ -38,24 +38,25 @@ abbrev pub ReadOn : (buffer : Bytes) (w : Window) (buffer′ : Bytes) → Answer
 ReadOn buffer w buffer′ (Answered.On w′) = ReadBehind buffer w buffer′ w′
 ReadOn buffer w buffer′ Answered.Last = Unit {0}
 
--- requests were taken from the front of the window, and more was read behind what is left
-pub record WentOn (buffer : Bytes) (w : Window) (buffer′ : Bytes) (w′ : Window) : Type 0 where
-  pub within : Within buffer′ w′
+-- requests were taken from the front of the window
+pub record TakenFrom (buffer : Bytes) (w : Window) (left : Bytes) : Type 0 where
   pub asked : Bytes
   pub said : Bytes
-  pub left : Bytes
-  pub more : Bytes
   pub answers : Answers asked said
   pub before : bytesOf buffer w ≡ asked ++ left
+
+-- and more was read behind what is left
+pub record WentOn (buffer : Bytes) (w : Window) (buffer′ : Bytes) (w′ : Window) : Type 0 where
+  pub within : Within buffer′ w′
+  pub left : Bytes
+  pub more : Bytes
+  pub taken : TakenFrom buffer w left
   pub after : bytesOf buffer′ w′ ≡ left ++ more
 
 -- or they end, and no request lies whole at the front of what is left
 pub record Ended (buffer : Bytes) (w : Window) : Type 0 where
-  pub asked : Bytes
-  pub said : Bytes
   pub left : Bytes
-  pub answers : Answers asked said
-  pub before : bytesOf buffer w ≡ asked ++ left
+  pub taken : TakenFrom buffer w left
   pub none : NoneLies left
 
 abbrev pub AnsweredNext : (buffer : Bytes) (w : Window) (buffer′ : Bytes) → Answered → Type 0

@@ -1,5 +1,6 @@
 -- `replies::answer_next` meets its contract: what is left of the window goes on, with what was read behind it.
 use borrow.Author.Needs.{needs}
+use Rattle.replies.proofs.Finding.{partial-none, partial-short, malformed-begins}
 use Rattle.replies.proofs.Moving.{beyond-within, beyond-short, none-lies, read-none, went-on, ended, read-went-on}
 use Rattle.replies.proofs.answer_next.Statement.{statement}
 use Rattle.replies.proofs.answer_next.Tie as tie
@@ -32,7 +33,7 @@ read-on-requires c κs =
     let within = c .before .before .before .before .before .before .before .before .before .before .before .before .before .before .before .before .before .before .before .before .before .before .before .before .before .before .pre .0 .0 in
     let gathered = c .before .before .before .before .before .before .before .before .before .before .before .before .before .before .gather .ensures in
     let left = gathered .left in
-    (beyond-within within gathered, beyond-short within gathered (rw (c .before .enum-told .given .1) at left) (c .before .before .before .before .before .before .before .before .before .before .before .before .before .before .before .before .before .before .before .before .before .before .before .before .before .before .pre .0 .1))
+    (beyond-within within gathered, beyond-short within gathered (partial-short (rw (c .before .enum-told .given .1) at left)) (c .before .before .before .before .before .before .before .before .before .before .before .before .before .before .before .before .before .before .before .before .before .before .before .before .before .before .pre .0 .1))
 
 enum-told-2 : tie.Need-enum-told-2
 enum-told-2 c = search needs
@@ -62,7 +63,7 @@ returns : tie.Need-returns
 returns c =
     let gathered = c .before .before .before .before .before .before .before .before .before .before .before .before .before .before .before .before .before .gather .ensures in
     let left = gathered .left in
-    read-went-on (c .before .before .before .before .before .before .before .before .before .before .before .before .before .before .before .before .before .before .before .before .before .before .before .before .before .before .before .before .before .pre .0 .0) gathered (c .before .before .read-on .last .0) (c .before .before .read-on .result) ((rw (c .before .before .before .before .enum-told .given .1) at left) .none) (c .before .before .read-on .ensures)
+    read-went-on (c .before .before .before .before .before .before .before .before .before .before .before .before .before .before .before .before .before .before .before .before .before .before .before .before .before .before .before .before .before .pre .0 .0) gathered (c .before .before .read-on .last .0) (c .before .before .read-on .result) (partial-none (rw (c .before .before .before .before .enum-told .given .1) at left)) (c .before .before .read-on .ensures)
 
 same-length-6 : tie.Need-same-length-6
 same-length-6 c = search needs
@@ -83,7 +84,7 @@ returns-2 : tie.Need-returns-2
 returns-2 c =
     let gathered = c .before .before .before .before .before .before .before .before .before .before .before .before .before .before .gather .ensures in
     let left = gathered .left in
-    ended (c .before .before .before .before .before .before .before .before .before .before .before .before .before .before .before .before .before .before .before .before .before .before .before .before .before .before .pre .0 .0) gathered (none-lies _ (rw (c .before .enum-told2 .given .1) at left))
+    ended (c .before .before .before .before .before .before .before .before .before .before .before .before .before .before .before .before .before .before .before .before .before .before .before .before .before .before .pre .0 .0) gathered (none-lies _ (malformed-begins (rw (c .before .enum-told2 .given .1) at left)))
 
 same-length-11 : tie.Need-same-length-11
 same-length-11 c = search needs

@@ -3,7 +3,8 @@ use mathlib.Core.Path.{refl, sym}
 use native.Mathlib.Omega.{arith}
 use lib.Seq.{length-take-le}
 use borrow.Author.Needs.{needs}
-use Rattle.replies.proofs.Finding.{no-line, long-line, other-line, short-text}
+use Rattle.replies.proofs.Finding.{line-partial, line-first, line-long}
+use Rattle.replies.specs.Found.{in-text, no-request}
 use Rattle.replies.proofs.requests.find.Statement.{statement}
 use Rattle.replies.proofs.requests.find.Tie as tie
 
@@ -11,13 +12,13 @@ line-end-requires : tie.Need-line-end-requires
 line-end-requires c κs = search needs
 
 returns : tie.Need-returns
-returns c = no-line (c .before .line-end .ensures) (omega arith)
+returns c = line-partial (c .before .line-end .ensures) (omega arith)
 
 shared-slice-read-if2 : tie.Need-shared-slice-read-if2
 shared-slice-read-if2 c = search needs
 
 returns-2 : tie.Need-returns-2
-returns-2 c = long-line (c .before .before .before .line-end .ensures) (omega arith) (c .if2 .taken)
+returns-2 c = line-long (c .before .before .before .line-end .ensures) (omega arith) (c .if2 .taken)
 
 slice-aggregate-read-request : tie.Need-slice-aggregate-read-request
 slice-aggregate-read-request c = sym (length-take-le _ _ (search needs))
@@ -35,7 +36,7 @@ same-length : tie.Need-same-length
 same-length c = search needs
 
 returns-3 : tie.Need-returns-3
-returns-3 c = other-line (c .before .before .before .before .before .before .before .before .before .before .line-end .ensures) (omega arith) (c .before .before .before .before .before .before .before .if2 .left) (rw (c .enum-told .given .1) at (c .before .before .before .before .read-request .ensures))
+returns-3 c = no-request _ (line-first (c .before .before .before .before .before .before .before .before .before .before .line-end .ensures) (omega arith) (c .before .before .before .before .before .before .before .if2 .left)) (rw (c .enum-told .given .1) at (c .before .before .before .before .read-request .ensures))
 
 add-text : tie.Need-add-text
 add-text c = search needs
@@ -47,13 +48,20 @@ same-length-2 : tie.Need-same-length-2
 same-length-2 c = search needs
 
 returns-4 : tie.Need-returns-4
-returns-4 c = short-text (c .before .before .before .before .before .before .before .before .before .before .before .before .before .line-end .ensures) (omega arith) (c .before .before .before .before .before .before .before .before .before .before .if2 .left) (rw (c .before .before .before .request .given .1) at (c .before .before .before .before .before .before .before .read-request .ensures)) (omega arith)
+returns-4 c = in-text _ _ _ (line-first (c .before .before .before .before .before .before .before .before .before .before .before .before .before .line-end .ensures) (omega arith) (c .before .before .before .before .before .before .before .before .before .before .if2 .left)) (rw (c .before .before .before .request .given .1) at (c .before .before .before .before .before .before .before .read-request .ensures)) (omega arith)
 
 same-length-3 : tie.Need-same-length-3
 same-length-3 c = search needs
 
 returns-5 : tie.Need-returns-5
-returns-5 c = record { end = c .before .before .before .before .before .before .before .before .before .before .before .before .before .line-end .result; after = refl; feed = c .before .before .before .before .before .before .before .before .before .before .if2 .left; line = rw (c .before .before .before .request .given .1) at (c .before .before .before .before .before .before .before .read-request .ensures); fits = omega arith }
+returns-5 c =
+    record {
+      end = c .before .before .before .before .before .before .before .before .before .before .before .before .before .line-end .result;
+      first = line-first (c .before .before .before .before .before .before .before .before .before .before .before .before .before .line-end .ensures) (omega arith) (c .before .before .before .before .before .before .before .before .before .before .if2 .left);
+      line = rw (c .before .before .before .request .given .1) at (c .before .before .before .before .before .before .before .read-request .ensures);
+      after = refl;
+      fits = omega arith;
+    }
 
 pub find-spec : {M : Type 1} → statement M
 find-spec =
