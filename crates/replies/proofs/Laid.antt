@@ -6,7 +6,6 @@ use mathlib.Core.List.{List, [], _++_}
 use Prim.Native.Nat.{ℕ, _+_, _-_, _<_, _≤_}
 use native.Mathlib.Nat.{eq-zero-or-pos}
 use native.Mathlib.Omega.{arith}
-use lib.Bits.{bitAnd, bitOr}
 use lib.ListN.{length, getD, drop, replicate, length-append, length-drop, length-replicate, getD-replicate, List·getD-append}
 use lib.Seq.{getD-append-add, getD-drop}
 use borrow.Author.Tests.{lt-ltb, le-ltb}
@@ -20,19 +19,12 @@ use Rattle.rules.specs.Entries.{Rounds, stopped, played, rounds, refusedPlay, p
 use Rattle.rules.specs.declared.Played.{Played}
 use Rattle.rules.specs.declared.Named.{Named}
 use Rattle.sheet.specs.Playing.{Copied}
-use Rattle.replies.specs.Lent.{FilledFrom, ZeroUpTo, WorkspaceLaid, RoomLaid}
+use Rattle.replies.specs.Lent.{AllAre, FilledFrom, WorkspaceLaid, RoomLaid}
 
 -- memory into which nothing but the filling was copied
 pub filled-all : {before l : List ℕ} {i : ℕ} → Copied (replicate (length before) 4294967295) before i l → length before ≤ i → FilledFrom 0 l
 filled-all {before} k h =
-    record { filled = λ j lo hi. k .first j (omega (arith, k .long)) ∙ getD-replicate (length before) j 4294967295 0 (omega (arith, k .long)) }
-
--- one number more: all bits are still 1, and none is
-pub kept-more : {from i all : ℕ} {l : List ℕ} → from ≤ i → i < length l → (FilledFrom from l → all ≡ 4294967295) → FilledFrom from l → bitAnd all (getD l i 0) ≡ 4294967295
-kept-more {i = i} lo hi so-far f = rw (so-far f, f .filled i lo hi)
-
-pub cleared-more : {n i any : ℕ} {l : List ℕ} → i < n → (ZeroUpTo n l → any ≡ 0) → ZeroUpTo n l → bitOr any (getD l i 0) ≡ 0
-cleared-more {i = i} h so-far z = rw (so-far z, z .zeros i h)
+    record { each = λ j lo hi. k .first j (omega (arith, k .long)) ∙ getD-replicate (length before) j 4294967295 0 (omega (arith, k .long)) }
 
 -- a list whose first places are written, and whose others were filled
 after-long : (xs l : List ℕ) → length (xs ++ drop (length xs) l) ≡ length xs + (length l - length xs)
@@ -41,22 +33,18 @@ after-long xs l = length-append xs (drop (length xs) l) ∙ ap (λ (n : ℕ). le
 after-filled : (xs l : List ℕ) → FilledFrom 0 l → FilledFrom (length xs) (xs ++ drop (length xs) l)
 after-filled xs l f =
     record {
-      filled = λ j lo hi.
+      each = λ j lo hi.
           let past : j ≡ length xs + (j - length xs) = omega arith in
           ap (λ (m : ℕ). getD (xs ++ drop (length xs) l) m 0) past
           ∙ getD-append-add xs (drop (length xs) l) (j - length xs) 0
           ∙ getD-drop (length xs) l (j - length xs) 0
           ∙ ap (λ (m : ℕ). getD l m 0) (sym past)
-          ∙ f .filled j (omega arith) (omega (arith, after-long xs l));
+          ∙ f .each j (omega arith) (omega (arith, after-long xs l));
     }
 
 -- the first n of a list are cleared
-cleared-zeros : (n : ℕ) (l : List ℕ) → n ≤ length l → ZeroUpTo n (replicate n 0 ++ drop n l)
-cleared-zeros n l h =
-    record {
-      enough = omega (arith, length-append (replicate n 0) (drop n l), length-replicate {A = ℕ} n 0);
-      zeros = λ j below. List·getD-append (replicate n 0) (drop n l) 0 j (omega (arith, length-replicate {A = ℕ} n 0)) ∙ getD-replicate n j 0 0 below;
-    }
+cleared-zeros : (n : ℕ) (l : List ℕ) → AllAre 0 (replicate n 0 ++ drop n l) 0 n
+cleared-zeros n l = record { each = λ j lo below. List·getD-append (replicate n 0) (drop n l) 0 j (omega (arith, length-replicate {A = ℕ} n 0)) ∙ getD-replicate n j 0 0 below }
 
 cleared-others : (n : ℕ) (l : List ℕ) → FilledFrom 0 l → FilledFrom n (replicate n 0 ++ drop n l)
 cleared-others n l f = subst (λ (m : ℕ). FilledFrom m (replicate n 0 ++ drop m l)) (length-replicate {A = ℕ} n 0) (after-filled (replicate n 0) l f)
@@ -80,7 +68,7 @@ workspace-laid w f = laid leastWorkspace refl
         subst⁻¹ WorkspaceLaid same
         (record {
           unchanged = λ h. absurd (omega (arith, cleared-long n w (omega arith)));
-          cleared = λ h. subst (λ (m : ℕ). ZeroUpTo m (replicate n 0 ++ drop n w)) e (cleared-zeros n w (omega arith));
+          cleared = λ h. subst (λ (m : ℕ). AllAre 0 (replicate n 0 ++ drop n w) 0 m) e (cleared-zeros n w);
           others = λ h. subst (λ (m : ℕ). FilledFrom m (replicate n 0 ++ drop n w)) e (cleared-others n w f);
         }))
         (λ z.

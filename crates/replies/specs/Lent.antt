@@ -4,19 +4,18 @@ use mathlib.Core.List.{List}
 use Prim.Native.Nat.{ℕ, _<_, _≤_}
 use lib.ListN.{length, getD}
 
--- the numbers from place n on are the filling, all of whose bits are 1
-pub record FilledFrom (n : ℕ) (l : List ℕ) : Type 0 where
-  pub filled : (j : ℕ) → n ≤ j → j < length l → getD l j 0 ≡ 4294967295
+-- the numbers from a place up to another are all the same value
+pub record AllAre (value : ℕ) (l : List ℕ) (from to : ℕ) : Type 0 where
+  pub each : (j : ℕ) → from ≤ j → j < to → getD l j 0 ≡ value
 
--- the first n numbers are 0
-pub record ZeroUpTo (n : ℕ) (l : List ℕ) : Type 0 where
-  pub enough : n ≤ length l
-  pub zeros : (j : ℕ) → j < n → getD l j 0 ≡ 0
+-- the numbers from place n on are the filling, all of whose bits are 1
+abbrev pub FilledFrom : ℕ → List ℕ → Type 0
+FilledFrom n l = AllAre 4294967295 l n (length l)
 
 -- a workspace that was filled: fewer than 8,192 numbers are unchanged, otherwise the first 8,192 are 0 and the others unchanged
 pub record WorkspaceLaid (l : List ℕ) : Type 0 where
   pub unchanged : length l < 8192 → FilledFrom 0 l
-  pub cleared : 8192 ≤ length l → ZeroUpTo 8192 l
+  pub cleared : 8192 ≤ length l → AllAre 0 l 0 8192
   pub others : 8192 ≤ length l → FilledFrom 8192 l
 
 -- a room that was filled: so many first places are written, and none on a refusal

@@ -7,7 +7,7 @@ use Rattle.replies.proofs.write_judge.Statement.{statement}
 use Rattle.replies.proofs.write_judge.Tie as tie
 
 say-memory-requires : tie.Need-say-memory-requires
-say-memory-requires c κs = workspace-never (c .before .before .before .before .before .before .before .before .before .before .before .pre .0) (c .before .before .before .before .before .before .judge .ensures .memory) (c .before .before .workspace-right .ensures) (not-true _ (c .before .if1 .taken))
+say-memory-requires c κs = workspace-never (c .before .before .before .before .before .before .before .before .before .before .before .pre .0) (c .before .before .before .before .before .before .judge .ensures .memory) (c .before .before .workspace-right .ensures .0) (not-true _ (c .before .if1 .taken))
 
 returns-2 : tie.Need-returns-2
 returns-2 c = wrote-judge (c .before .before .before .before .before .before .before .before .before .judge .ensures) (c .before .before .report .ensures)

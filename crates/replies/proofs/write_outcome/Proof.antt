@@ -13,19 +13,19 @@ use Rattle.replies.proofs.write_outcome.Tie as tie
 
 say-memory-requires : tie.Need-say-memory-requires
 say-memory-requires c κs =
-    outcome-never _ (c .before .before .before .before .before .before .before .before .before .before .before .before .before .before .before .before .before .pre .0 .1) (c .before .before .before .before .before .before .before .before .before .before .before .before .before .before .before .before .before .pre .0 .2) (c .before .before .before .before .before .before .before .before .before .before .outcome .ensures) (ap (λ (z : Told). z .number) (c .before .before .before .before .before .tell .ensures)) (c .before .before .lent-right .ensures .1) (not-true _ (c .before .if1 .taken))
+    outcome-never _ (c .before .before .before .before .before .before .before .before .before .before .before .before .before .before .before .before .before .pre .0 .1) (c .before .before .before .before .before .before .before .before .before .before .before .before .before .before .before .before .before .pre .0 .2) (c .before .before .before .before .before .before .before .before .before .before .outcome .ensures) (ap (λ (z : Told). z .number) (c .before .before .before .before .before .tell .ensures)) (c .before .before .lent-right .ensures .0) (not-true _ (c .before .if1 .taken))
 
 narrow-requires : tie.Need-narrow-requires
 narrow-requires c κs = outcome-few (c .before .before .before .before .before .before .before .before .before .outcome .ensures)
 
 slice-reshare-prefix-write-line : tie.Need-slice-reshare-prefix-write-line
-slice-reshare-prefix-write-line c = c .before .before .before .before .lent-right .ensures .0 (not-false _ (c .before .before .before .if1 .left))
+slice-reshare-prefix-write-line c = c .before .before .before .before .lent-right .ensures .1 (not-false _ (c .before .before .before .if1 .left)) .1 .there
 
 slice-aggregate-write-line-2 : tie.Need-slice-aggregate-write-line-2
-slice-aggregate-write-line-2 c = sym (length-take-le _ _ (c .before .before .before .before .before .lent-right .ensures .0 (not-false _ (c .before .before .before .before .if1 .left))))
+slice-aggregate-write-line-2 c = sym (length-take-le _ _ (c .before .before .before .before .before .lent-right .ensures .1 (not-false _ (c .before .before .before .before .if1 .left)) .1 .there))
 
 write-line-requires : tie.Need-write-line-requires
-write-line-requires c κs = reply-fits (c .before .before .before .before .before .before .before .before .before .before .before .before .before .outcome .result .cells) _ _ 44 (search needs) (omega (arith, c .before .before .before .before .before .before .before .before .before .before .before .before .before .before .before .before .before .before .before .before .pre .0 .0, c .before .before .before .before .before .lent-right .ensures .0 (not-false _ (c .before .before .before .before .if1 .left)))) (omega arith)
+write-line-requires c κs = reply-fits (c .before .before .before .before .before .before .before .before .before .before .before .before .before .outcome .result .cells) _ _ 44 (search needs) (omega (arith, c .before .before .before .before .before .before .before .before .before .before .before .before .before .before .before .before .before .before .before .before .pre .0 .0, c .before .before .before .before .before .lent-right .ensures .1 (not-false _ (c .before .before .before .before .if1 .left)) .1 .there)) (omega arith)
 
 returns-2 : tie.Need-returns-2
 returns-2 c = wrote-outcome (c .before .before .before .before .before .before .before .before .before .before .before .before .before .before .before .before .outcome .ensures) (c .before .before .before .before .before .before .before .before .before .before .before .tell .ensures) (c .before .before .before .before .before .before .narrow .ensures) (c .before .before .write-line .ensures)
