@@ -18,7 +18,7 @@ use rules::Player;
 
 // A set of cells.
 pub struct Cells {
-    pub rows: [u32; 21],
+    rows: [u32; 21],
 }
 
 // The column and the row of a cell, both from 1.

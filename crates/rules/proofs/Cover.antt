@@ -1,16 +1,18 @@
 -- Demand 3: the invariant of every game that an accepted sheet leads to, and the cover's sentence from it.
-use mathlib.Core.Path.{_≡_, refl, sym, subst, subst⁻¹}
+use mathlib.Core.Path.{_≡_, refl, sym, ap, _∙_, subst, subst⁻¹}
 use mathlib.Core.Bool.{false, not, _||_}
 use mathlib.Core.List.{List, [], _∷_, _++_, append-nil, append-assoc}
 use mathlib.Core.Logic.{_≢_, _⊎_, inl, inr, ⊎-elim}
 use mathlib.Core.Option.{none, some}
-use Prim.Native.Nat.{ℕ, zero, suc, _+_, _≤_}
+use Prim.Native.Nat.{ℕ, zero, suc, _+_, _<_, _≤_}
 use native.Mathlib.Omega.{arith}
+use native.Mathlib.Nat.{add-zero}
 use borrow.Author.Tests.{le-ltb}
 use lib.Dec.{T, eqb, eqb→eq, eqb-refl, not-T, T-not}
-use lib.ListN.{length, length-append}
+use lib.ListN.{length, take, getD, length-append}
+use lib.Seq.{getD-append-seam}
 use Rattle.rules.specs.Words.{_∈_, at-head, in-tail, among}
-use Rattle.rules.specs.Board.{isCell}
+use Rattle.rules.specs.Board.{isCell, smallest}
 use Rattle.rules.specs.Text.{Bytes}
 use Rattle.rules.specs.Joining.{joined}
 use Rattle.rules.specs.Tree.{Waits, noWaits, wait, Moves, noMoves, move, Wait, Move, Sheet, stone, movesOfWaits, movesOfMoves, waitsOfWaits, waitsOfMoves, everyMove, everyWait, waitCount}
@@ -18,14 +20,15 @@ use Rattle.rules.specs.Reading.{got}
 use Rattle.rules.specs.Fair.{inWaits, inMoves, inMove, holding, inEvery}
 use Rattle.rules.specs.Outcomes.{outcomes, outcomesOfWaits}
 use Rattle.rules.specs.Answering.{Choice, taken, opened, allowed, answer, Game, start, mine, isOver, isTaken, isEmpty, next, answeredBy, answered}
-use Rattle.rules.specs.Entries.{_>>=_, refuseIf, step, played, rounds, playedOut, playOn, play}
+use Rattle.rules.specs.Entries.{accepted, _>>=_, refuseIf, step, played, rounds, playedOut, playOn, play}
 use Rattle.rules.specs.Plain.{IsApart, IsElusive, IsSheet}
-use Rattle.rules.specs.Promise.{Chosen, no-round, round, Ruled, no-move, one-move, Covered, Demand3, Demand3Chosen, Demand3Played, Demand3Joined}
+use Rattle.rules.specs.Promise.{Chosen, no-round, round, Ruled, no-move, one-move, Against, no-turn, turn, MovesToEmpty, Covered, AnsweredAt, Demand3, Demand3Chosen, Demand3Played, Demand3Joined, Demand3Opposed, Demand3Each}
 use Rattle.rules.specs.declared.Board.{Board}
 use Rattle.rules.proofs.Tests.{true-of, false-of, decide, both, fst, snd, left, cases, nor}
 use Rattle.rules.proofs.Lists.{in-append, in-first, in-second, append-left, append-right}
 use Rattle.rules.proofs.Joining.{joined-more, joins→joined}
 use Rattle.rules.proofs.WellRead.{well-read}
+use Rattle.rules.proofs.Smallest.{smallest-some, smallest-none}
 use Rattle.rules.proofs.Given.{accepted-exactly}
 use Rattle.rules.proofs.EachOutcome.{Each, Inside, each-in, each-unmap, each-opened}
 use Rattle.rules.proofs.Opening.{Apart, Elusive, FairWaits, FairMoves, waitsIn, waits-counted, hold-in, out-hold, fair-opened, count-opened, hold-opened, taken-hold, taken-opened, dodged, taken-not}
@@ -275,13 +278,19 @@ rule-next : (g : Game) (x : ℕ) (k : Choice (g .open-waits)) → answer x (g .o
 unfolding answered answeredBy
 rule-next g x k e = rw e
 
+-- the game after the rule's answer is safe, and has a wait fewer
+rule-safe : (s : Sheet) (g : Game) → Safe s g → T (not (isOver s g)) → (x : ℕ) → Safe s (answered g x) × (waitsIn (answered g x .open-waits) < waitsIn (g .open-waits))
+unfolding next
+rule-safe s g i u x =
+    let a = answers x (g .open-waits) (i .fair) (waiting s g i u) in
+    rw (rule-next g x (a .0) (a .1)) (safe-next s g i x (a .0) (a .2), omega (arith, count-opened (g .open-waits) (a .0)))
+
 ruled-chosen : (s : Sheet) (g : Game) (xs : List ℕ) (h : Game) → Ruled s g xs h → Safe s g → Chosen s g (length xs) h
 ruled-chosen s g _ _ no-move i = no-round
 ruled-chosen s g _ h (one-move {x = x} {xs = xs} u e r) i =
     let a = answers x (g .open-waits) (i .fair) (waiting s g i u) in
     let same = rule-next g x (a .0) (a .1) in
-    round x (a .0) u e (a .2)
-    (subst (λ (z : Game). Chosen s z (length xs) h) same (ruled-chosen s (answered g x) xs h r (subst⁻¹ (Safe s) same (safe-next s g i x (a .0) (a .2)))))
+    round x (a .0) u e (a .2) (subst (λ (z : Game). Chosen s z (length xs) h) same (ruled-chosen s (answered g x) xs h r (rule-safe s g i u x .0)))
 
 -- Demand 3, played by the answering rule
 pub demand-3 : Demand3
@@ -296,31 +305,111 @@ demand-3 w t s e xs g r =
           record { choice = a .0; is-answer = a .1; is-allowed = a .2; was-empty = f .0; not-theirs = f .1 },
     )
 
+-- a game against an opponent goes on where it ended
+against-more : (s : Sheet) (opponent : Game → ℕ) (g h k : Game) (xs ys : List ℕ) → Against s opponent g xs h → Against s opponent h ys k → Against s opponent g (xs ++ ys) k
+against-more s opponent g h k _ ys no-turn r = r
+against-more s opponent g h k _ ys (turn u q) r = turn u (against-more s opponent _ h k _ ys q r)
+
 -- a game against an opponent, to the end: `fuel` is at least the number of waits left
-to-the-end : (s : Sheet) (opponent : Game → ℕ) → ((g : Game) → T (not (isOver s g)) → T (isEmpty s g (opponent g)))
-    → (fuel : ℕ) (g : Game) → Safe s g → waitsIn (g .open-waits) ≤ fuel
-    → (xs : List ℕ) × (h : Game) × Ruled s g xs h × T (isOver s h) × (length xs ≤ fuel)
-to-the-end s opponent moves zero g i c =
-    ⊎-elim (λ o. ([], g, no-move, o, omega arith)) (λ u. absurd (omega (arith, c, waiting s g i u))) (decide (isOver s g))
-to-the-end s opponent moves (suc fuel) g i c =
+to-the-end : (s : Sheet) (opponent : Game → ℕ) → MovesToEmpty s opponent
+    → (fuel : ℕ) (before : List ℕ) (g : Game) → Against s opponent (start s) before g → Safe s g → waitsIn (g .open-waits) ≤ fuel
+    → (xs : List ℕ) × (h : Game) × Against s opponent g xs h × Ruled s g xs h × T (isOver s h) × (length xs ≤ fuel)
+to-the-end s opponent moves zero before g q i c =
+    ⊎-elim (λ o. ([], g, no-turn, no-move, o, omega arith)) (λ u. absurd (omega (arith, c, waiting s g i u))) (decide (isOver s g))
+to-the-end s opponent moves (suc fuel) before g q i c =
     ⊎-elim
-    (λ o. ([], g, no-move, o, omega arith))
+    (λ o. ([], g, no-turn, no-move, o, omega arith))
     (λ u.
     let x = opponent g in
-    let a = answers x (g .open-waits) (i .fair) (waiting s g i u) in
-    let same = rule-next g x (a .0) (a .1) in
-    let fewer : waitsIn (next g x (a .0) .open-waits) ≤ fuel = unfold next in omega (arith, count-opened (g .open-waits) (a .0)) in
-    let r =
-    to-the-end s opponent moves fuel (answered g x)
-    (subst⁻¹ (Safe s) same (safe-next s g i x (a .0) (a .2)))
-    (subst⁻¹ (λ (z : Game). waitsIn (z .open-waits) ≤ fuel) same fewer)
-    in
-    (x ∷ r .0, r .1, one-move u (moves g u) (r .2), r .3, omega (arith, r .4)))
+    let after = rule-safe s g i u x in
+    let so-far = against-more s opponent (start s) g (answered g x) before (x ∷ []) q (turn u no-turn) in
+    let r = to-the-end s opponent moves fuel (before ++ x ∷ []) (answered g x) so-far (after .0) (omega (arith, c, after .1)) in
+    (x ∷ r .0, r .1, turn u (r .2), one-move u (moves before g q u) (r .3), r .4, omega (arith, r .5)))
     (decide (isOver s g))
 
 pub demand-3-joined : Demand3Joined
 demand-3-joined w t s e opponent moves =
-    to-the-end s opponent moves (waitCount s) (start s) (begin w t s (accepted-exactly w t s .0 e)) (omega (arith, all-waits s))
+    let r =
+    to-the-end s opponent moves (waitCount s) [] (start s) no-turn (begin w t s (accepted-exactly w t s .0 e)) (omega (arith, all-waits s))
+    in
+    record { moves = r .0; game = r .1; his = r .2; ruled = r .3; joined = r .4; within = r .5 }
+
+-- there is such an opponent
+against-safe : (s : Sheet) (opponent : Game → ℕ) (g : Game) (xs : List ℕ) (h : Game) → Against s opponent g xs h → Safe s g → Safe s h
+against-safe s opponent g _ _ no-turn i = i
+against-safe s opponent g _ h (turn {xs = xs} u q) i =
+    against-safe s opponent (answered g (opponent g)) xs h q (rule-safe s g i u (opponent g) .0)
+
+pub demand-3-opposed : Demand3Opposed
+unfolding isEmpty
+demand-3-opposed w t s e xs g q u =
+    let i = against-safe s (λ g. smallest (s .board) (isEmpty s g)) (start s) xs g q (begin w t s (accepted-exactly w t s .0 e)) in
+    let a = answers 0 (g .open-waits) (i .fair) (waiting s g i u) in
+    let y = taken (g .open-waits) (a .0) in
+    let y-empty = cell-empty s g i y (taken-hold (g .open-waits) (a .0)) in
+    go y y-empty (smallest (s .board) (isEmpty s g)) refl
+  where
+    on-board : (y : ℕ) → T (isEmpty s g y) → T (isCell (s .board) y)
+    on-board y h = fst (isCell (s .board) y) (not (isTaken s g y)) h
+
+    go : (y : ℕ) → T (isEmpty s g y) → (c : ℕ) → smallest (s .board) (isEmpty s g) ≡ c → T (isEmpty s g (smallest (s .board) (isEmpty s g)))
+    go y h zero z = absurd (smallest-none (s .board) (isEmpty s g) z y (on-board y h) h)
+    go y h (suc c) z = subst⁻¹ (λ (k : ℕ). T (isEmpty s g k)) z (smallest-some (s .board) (isEmpty s g) c z .in-set)
+
+-- answers are kept
+chosen-on : (s : Sheet) (g : Game) (n : ℕ) (h : Game) → Chosen s g n h → (more : List ℕ) × (h .answers ≡ g .answers ++ more)
+unfolding next
+chosen-on s g _ _ no-round = ([], sym (append-nil (g .answers)))
+chosen-on s g _ h (round {n = n} x k u e a r) =
+    let later = chosen-on s (next g x k) n h r in
+    (taken (g .open-waits) k ∷ later .0, later .1 ∙ append-assoc (g .answers) (taken (g .open-waits) k ∷ []) (later .0))
+
+-- a game goes on where it ended
+ruled-more : (s : Sheet) (g h k : Game) (xs ys : List ℕ) → Ruled s g xs h → Ruled s h ys k → Ruled s g (xs ++ ys) k
+ruled-more s g h k _ ys no-move r = r
+ruled-more s g h k _ ys (one-move u e q) r = one-move u e (ruled-more s _ h k _ ys q r)
+
+-- the answers of a game that goes on from g, which the moves before it led to
+record AnsweredOn (s : Sheet) (before xs : List ℕ) (place cell : ℕ) : Type 0 where
+  game : Game
+  stands : Ruled s (start s) (before ++ take place xs) game
+  was-empty : T (isEmpty s game cell)
+  not-theirs : cell ≢ getD xs place 0
+
+-- the rule's answer is the next one of the game
+next-answer : (s : Sheet) (g : Game) (x : ℕ) (k : Choice (g .open-waits)) → answer x (g .open-waits) ≡ some k → (n : ℕ) (h : Game) → Chosen s (answered g x) n h
+    → (getD (h .answers) (length (g .answers)) 0 ≡ taken (g .open-waits) k) × (length (answered g x .answers) ≡ length (g .answers) + 1)
+unfolding next
+next-answer s g x k e n h c =
+    let same = rule-next g x k e in
+    let later = chosen-on s (next g x k) n h (subst (λ (z : Game). Chosen s z n h) same c) in (
+      ap (λ (l : List ℕ). getD l (length (g .answers)) 0) (later .1 ∙ append-assoc (g .answers) (taken (g .open-waits) k ∷ []) (later .0))
+          ∙ getD-append-seam (g .answers) (taken (g .open-waits) k) (later .0) 0,
+      ap (λ (z : Game). length (z .answers)) same ∙ length-append (g .answers) (taken (g .open-waits) k ∷ []),
+    )
+
+each-answer : (s : Sheet) (before : List ℕ) (g : Game) → Ruled s (start s) before g → Safe s g → (xs : List ℕ) (h : Game) → Ruled s g xs h
+    → (k : ℕ) → k < length xs → (at : ℕ) → at ≡ length (g .answers) + k → AnsweredOn s before xs k (getD (h .answers) at 0)
+each-answer s before g q i _ h no-move k small at is = absurd (omega (arith, small))
+each-answer s before g q i _ h (one-move {x = x} {xs = xs} u e r) zero small at is =
+    let a = answers x (g .open-waits) (i .fair) (waiting s g i u) in
+    let f = choice-empty s g i x (a .0) (a .2) in
+    let n = next-answer s g x (a .0) (a .1) (length xs) h (ruled-chosen s (answered g x) xs h r (rule-safe s g i u x .0)) in
+    let first : at ≡ length (g .answers) = omega (arith, is) in
+    record { game = g; stands = rw (append-nil before) q; was-empty = rw (first, n .0) (f .0); not-theirs = rw (first, n .0) (f .1) }
+each-answer s before g q i _ h (one-move {x = x} {xs = xs} u e r) (suc k) small at is =
+    let a = answers x (g .open-waits) (i .fair) (waiting s g i u) in
+    let safe = rule-safe s g i u x .0 in
+    let n = next-answer s g x (a .0) (a .1) (length xs) h (ruled-chosen s (answered g x) xs h r safe) in
+    let more = ruled-more s (start s) g (answered g x) before (x ∷ []) q (one-move u e no-move) in
+    let o = each-answer s (before ++ x ∷ []) (answered g x) more safe xs h r k (omega (arith, small)) at (omega (arith, is, n .1)) in
+    record { game = o .game; stands = rw append-assoc at (o .stands); was-empty = o .was-empty; not-theirs = o .not-theirs }
+
+pub demand-3-each : Demand3Each
+demand-3-each w t s e xs g r place small =
+    let none : length (start s .answers) ≡ 0 = unfold start in refl in
+    let a = each-answer s [] (start s) no-move (begin w t s (accepted-exactly w t s .0 e)) xs g r place small place (omega (arith, none)) in
+    record { game = a .game; before = a .stands; was-empty = a .was-empty; not-theirs = a .not-theirs }
 
 -- Play's reply to such moves
 step-got : (s : Sheet) (g : Game) (x : ℕ) → T (not (isOver s g)) → T (isEmpty s g x) → step s g x ≡ got (answered g x)
@@ -332,10 +421,18 @@ step-got s g x u e =
       false-of (isTaken s g x) (T-not (isTaken s g x) (snd (isCell (s .board) x) (not (isTaken s g x)) e)),
     )
 
-ruled-rounds : (s : Sheet) (g : Game) (place : ℕ) (xs : List ℕ) (h : Game) → Ruled s g xs h → rounds s g place xs ≡ played h
+-- moves by the rule are played, and the moves after them go on from there
+pub ruled-rounds : (s : Sheet) (g : Game) (place : ℕ) (xs ys : List ℕ) (h : Game) → Ruled s g xs h
+    → rounds s g place (xs ++ ys) ≡ rounds s h (place + length xs) ys
 unfolding rounds
-ruled-rounds s g place _ _ no-move = refl
-ruled-rounds s g place _ h (one-move {x = x} {xs = xs} u e r) = rw (step-got s g x u e, rounds) (ruled-rounds s (answered g x) (place + 1) xs h r)
+ruled-rounds s g place _ ys _ no-move = ap (λ (k : ℕ). rounds s g k ys) (sym (add-zero place))
+ruled-rounds s g place _ ys h (one-move {x = x} {xs = xs} u e r) =
+    let on : place + 1 + length xs ≡ place + suc (length xs) = omega arith in
+    rw (step-got s g x u e, rounds) (ruled-rounds s (answered g x) (place + 1) xs ys h r ∙ ap (λ (k : ℕ). rounds s h k ys) on)
+
+pub ruled-played : (s : Sheet) (g : Game) (place : ℕ) (xs : List ℕ) (h : Game) → Ruled s g xs h → rounds s g place xs ≡ played h
+unfolding rounds
+ruled-played s g place xs h r = ap (rounds s g place) (sym (append-nil xs)) ∙ ruled-rounds s g place xs [] h r
 
 chosen-answers : (s : Sheet) (g : Game) (n : ℕ) (h : Game) → Chosen s g n h → length (h .answers) ≡ length (g .answers) + n
 unfolding next
@@ -347,7 +444,7 @@ pub demand-3-played : Demand3Played
 unfolding play playOn playedOut refuseIf _>>=_
 demand-3-played w t s e xs g r room enough =
     record {
-      reply = rw (e, le-ltb room (length xs) enough, ruled-rounds s (start s) 1 xs g r);
+      reply = rw (e, le-ltb room (length xs) enough, ruled-played s (start s) 1 xs g r);
       one-each = counted (ruled-chosen s (start s) xs g r (begin w t s (accepted-exactly w t s .0 e)));
     }
   where

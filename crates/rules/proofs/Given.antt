@@ -1,6 +1,6 @@
 -- Judge's reply is the one that the table gives: each case exactly when its plain statement holds.
-use mathlib.Core.Path.{_≡_, refl, ap, subst, subst⁻¹, _∙_}
-use mathlib.Core.Logic.{inl, inr, _↔_}
+use mathlib.Core.Path.{_≡_, refl, sym, ap, subst, subst⁻¹, _∙_}
+use mathlib.Core.Logic.{_≢_, inl, inr, _↔_}
 use Prim.Native.Nat.{ℕ, zero, suc, _+_, _≤_, _<_}
 use mathlib.Core.Bool.{Bool, true, false, _&&_}
 use mathlib.Core.List.{List, [], _∷_}
@@ -19,9 +19,11 @@ use Rattle.rules.specs.Reading.{Result, refused, got, readSheet}
 use Rattle.rules.specs.Fair.{Fault, inWaits, holding, notApart, notElusive, firstNotApart, firstNotElusive}
 use Rattle.rules.specs.Outcomes.{outcomes, outcomeCount}
 use Rattle.rules.specs.Entries.{_>>=_, refuseIf, refuseFault, refuseUnjoined, read, fair, satisfying, accepted, judged, judge}
-use Rattle.rules.specs.Plain.{IsApart, IsElusive, AllApart, AllElusive, AllJoin, WithinSizes, IsSheet, Given, as-accepted, as-small, as-long, as-unread, as-not-apart, as-not-elusive, as-too-many, as-not-joined}
+use Rattle.rules.specs.Plain.{IsApart, IsElusive, AllApart, AllElusive, AllJoin, WithinSizes, IsSheet, IsFair, Given, as-accepted, as-small, as-long, as-unread, as-not-apart, as-not-elusive, as-too-many, as-not-joined}
 use Rattle.rules.specs.declared.Board.{Board}
 use Rattle.rules.specs.declared.Player.{Player}
+use Rattle.rules.specs.Verdict.{told}
+use Rattle.rules.specs.declared.Told.{Told}
 use Rattle.rules.specs.declared.Verdict.{Verdict}
 use Rattle.rules.specs.declared.Verdict.the-variants.{SmallWorkspace, LongText, NotApart, NotElusive, TooManyOutcomes, NotJoined}
 use Rattle.rules.proofs.Tests.{true-of, false-of, both, fst, snd, left, right, cases}
@@ -187,88 +189,96 @@ module _ (s : Sheet) where
   unfolding satisfying
   fault-joined r e = rw e
 
--- every case of the table is judge's reply
-pub given-judge : (w : ℕ) (t : Bytes) (v : Verdict) → Given w t v → judge w t ≡ v
+-- every case of the table is what judge's reply tells
+pub given-judge : (w : ℕ) (t : Bytes) (n : Told) → Given w t n → told (judge w t) ≡ n
 unfolding judged _>>=_ firstNotApart firstNotElusive
 given-judge w t _ (as-accepted s h) =
+    ap told (
     reply-got w t s (h .sizes) (h .reads)
     ∙ ap (λ (r : Result Sheet). judged (r >>= satisfying)) (fair-passed s (apart-none s (h .apart)) (elusive-none s (h .elusive)) (h .few))
     ∙ ap judged (fault-joined s (got tt) (all-joined (s .board) (s .player) 0 (outcomes s) (h .satisfying)))
-given-judge w t _ (as-small h) = reply-small w t h
-given-judge w t _ (as-long h k) = reply-long w t h k
-given-judge w t _ (as-unread v z e) = reply-unread w t v z e
+    )
+given-judge w t _ (as-small h) = ap told (reply-small w t h)
+given-judge w t _ (as-long h k) = ap told (reply-long w t h k)
+given-judge w t _ (as-unread v z e) = ap told (reply-unread w t v z e)
 given-judge w t _ (as-not-apart s f z e h) =
-    reply-got w t s z e ∙ fair-refused s _ (fair-apart s f (is-first (s .board) (λ (m : Move). m .line) notApart (everyMove s) f h))
+    ap told (reply-got w t s z e ∙ fair-refused s _ (fair-apart s f (is-first (s .board) (λ (m : Move). m .line) notApart (everyMove s) f h)))
 given-judge w t _ (as-not-elusive s f z e a h) =
-    reply-got w t s z e ∙ fair-refused s _ (fair-elusive s f (apart-none s a) (is-first (s .board) (λ (v : Wait). v .line) notElusive (everyWait s) f h))
-given-judge w t _ (as-too-many s z e a l m) = reply-got w t s z e ∙ fair-refused s _ (fair-many s (apart-none s a) (elusive-none s l) m)
+    ap told
+    (reply-got w t s z e ∙ fair-refused s _ (fair-elusive s f (apart-none s a) (is-first (s .board) (λ (v : Wait). v .line) notElusive (everyWait s) f h)))
+given-judge w t _ (as-too-many s z e a l m) = ap told (reply-got w t s z e ∙ fair-refused s _ (fair-many s (apart-none s a) (elusive-none s l) m))
 given-judge w t _ (as-not-joined s i z e a l m h) =
+    ap told (
     reply-got w t s z e
     ∙ ap (λ (r : Result Sheet). judged (r >>= satisfying)) (fair-passed s (apart-none s a) (elusive-none s l) m)
     ∙ ap judged
     (fault-joined s (refused (NotJoined (0 + i)))
     (first-unjoined (s .board) (s .player) 0 (outcomes s) i (omega (arith, count-is-length s, h .is-number)) (h .not-joined) (h .joined-before)))
     ∙ ap NotJoined (number i)
+    )
   where
     number : (k : ℕ) → 0 + k ≡ k
     number k = omega arith
 
--- judge's reply is a case of the table
+-- what judge's reply tells is a case of the table
+abbrev GivenAs : ℕ → Bytes → Verdict → Type 0
+GivenAs w t v = Given w t (told v)
+
 module _ (w : ℕ) (t : Bytes) (z : WithinSizes w t) (s : Sheet) (e : readSheet t ≡ got s) where
   joined-given : AllApart s → AllElusive s → outcomeCount s ≤ mostOutcomes → (r : Result (Unit {0})) → Walked (s .board) (s .player) 0 (outcomes s) r
-      → Given w t (judged (r >>= λ u. got s))
+      → GivenAs w t (judged (r >>= λ u. got s))
   unfolding judged _>>=_
   joined-given a l m _ (all h) = as-accepted s (record { sizes = z; reads = e; apart = a; elusive = l; few = m; satisfying = h })
   joined-given a l m _ (first i k not-so so) =
       let n : 0 + i ≡ i = omega arith in
       rw n (as-not-joined s i z e a l m (record { is-number = omega (arith, count-is-length s); not-joined = not-so; joined-before = so }))
 
-  count-given : AllApart s → AllElusive s → (b : Bool) → ltb mostOutcomes (outcomeCount s) ≡ b → Given w t (judged (fair s >>= satisfying))
+  count-given : AllApart s → AllElusive s → (b : Bool) → ltb mostOutcomes (outcomeCount s) ≡ b → GivenAs w t (judged (fair s >>= satisfying))
   unfolding _>>=_
   count-given a l true q =
-      subst⁻¹ (Given w t) (fair-refused s _ (fair-many s (apart-none s a) (elusive-none s l) (ltb-true mostOutcomes (outcomeCount s) q)))
+      subst⁻¹ (GivenAs w t) (fair-refused s _ (fair-many s (apart-none s a) (elusive-none s l) (ltb-true mostOutcomes (outcomeCount s) q)))
       (as-too-many s z e a l (ltb-true mostOutcomes (outcomeCount s) q))
   count-given a l false q =
       let m = ltb-false mostOutcomes (outcomeCount s) q in
-      subst⁻¹ (λ (r : Result Sheet). Given w t (judged (r >>= satisfying))) (fair-passed s (apart-none s a) (elusive-none s l) m)
-      (subst⁻¹ (λ (r : Result Sheet). Given w t (judged r)) (fault-joined s (refuseUnjoined (s .board) (s .player) 0 (outcomes s)) refl)
+      subst⁻¹ (λ (r : Result Sheet). GivenAs w t (judged (r >>= satisfying))) (fair-passed s (apart-none s a) (elusive-none s l) m)
+      (subst⁻¹ (λ (r : Result Sheet). GivenAs w t (judged r)) (fault-joined s (refuseUnjoined (s .board) (s .player) 0 (outcomes s)) refl)
       (joined-given a l m (refuseUnjoined (s .board) (s .player) 0 (outcomes s)) (walked (s .board) (s .player) 0 (outcomes s))))
 
-  elusive-given : AllApart s → (f : Option Fault) → firstNotElusive s ≡ f → Given w t (judged (fair s >>= satisfying))
+  elusive-given : AllApart s → (f : Option Fault) → firstNotElusive s ≡ f → GivenAs w t (judged (fair s >>= satisfying))
   unfolding firstNotElusive
   elusive-given a none q = count-given a (none-elusive s q) (ltb mostOutcomes (outcomeCount s)) refl
   elusive-given a (some f) q =
-      subst⁻¹ (Given w t) (fair-refused s _ (fair-elusive s f (apart-none s a) q))
+      subst⁻¹ (GivenAs w t) (fair-refused s _ (fair-elusive s f (apart-none s a) q))
       (as-not-elusive s f z e a (first-is (s .board) (λ (v : Wait). v .line) notElusive (everyWait s) f q))
 
-  apart-given : (f : Option Fault) → firstNotApart s ≡ f → Given w t (judged (fair s >>= satisfying))
+  apart-given : (f : Option Fault) → firstNotApart s ≡ f → GivenAs w t (judged (fair s >>= satisfying))
   unfolding firstNotApart
   apart-given none q = elusive-given (none-apart s q) (firstNotElusive s) refl
   apart-given (some f) q =
-      subst⁻¹ (Given w t) (fair-refused s _ (fair-apart s f q)) (as-not-apart s f z e (first-is (s .board) (λ (m : Move). m .line) notApart (everyMove s) f q))
+      subst⁻¹ (GivenAs w t) (fair-refused s _ (fair-apart s f q)) (as-not-apart s f z e (first-is (s .board) (λ (m : Move). m .line) notApart (everyMove s) f q))
 
-read-given : (w : ℕ) (t : Bytes) → WithinSizes w t → (r : Result Sheet) → readSheet t ≡ r → Given w t (judge w t)
-read-given w t z (refused v) e = subst⁻¹ (Given w t) (reply-unread w t v z e) (as-unread v z e)
-read-given w t z (got s) e = subst⁻¹ (Given w t) (reply-got w t s z e) (apart-given w t z s e (firstNotApart s) refl)
+read-given : (w : ℕ) (t : Bytes) → WithinSizes w t → (r : Result Sheet) → readSheet t ≡ r → GivenAs w t (judge w t)
+read-given w t z (refused v) e = subst⁻¹ (GivenAs w t) (reply-unread w t v z e) (as-unread v z e)
+read-given w t z (got s) e = subst⁻¹ (GivenAs w t) (reply-got w t s z e) (apart-given w t z s e (firstNotApart s) refl)
 
-pub judge-given : (w : ℕ) (t : Bytes) → Given w t (judge w t)
+pub judge-given : (w : ℕ) (t : Bytes) → Given w t (told (judge w t))
 judge-given w t = sized (ltb w leastWorkspace) refl
   where
-    texted : leastWorkspace ≤ w → (b : Bool) → ltb mostBytes (length t) ≡ b → Given w t (judge w t)
+    texted : leastWorkspace ≤ w → (b : Bool) → ltb mostBytes (length t) ≡ b → GivenAs w t (judge w t)
     texted h true e =
         let k = ltb-true mostBytes (length t) e in
-        subst⁻¹ (Given w t) (reply-long w t h k) (as-long h k)
+        subst⁻¹ (GivenAs w t) (reply-long w t h k) (as-long h k)
     texted h false e = read-given w t (record { enough = h; short = ltb-false mostBytes (length t) e }) (readSheet t) refl
 
-    sized : (b : Bool) → ltb w leastWorkspace ≡ b → Given w t (judge w t)
+    sized : (b : Bool) → ltb w leastWorkspace ≡ b → GivenAs w t (judge w t)
     sized true e =
         let h = ltb-true w leastWorkspace e in
-        subst⁻¹ (Given w t) (reply-small w t h) (as-small h)
+        subst⁻¹ (GivenAs w t) (reply-small w t h) (as-small h)
     sized false e = texted (ltb-false w leastWorkspace e) (ltb mostBytes (length t)) refl
 
--- demand 2, of judge: each reply exactly when the table gives it
-pub given-exactly : (w : ℕ) (t : Bytes) (v : Verdict) → (judge w t ≡ v) ↔ Given w t v
-given-exactly w t v = (λ e. subst (Given w t) e (judge-given w t), given-judge w t v)
+-- demand 2, of judge: its reply tells these numbers exactly when the table gives them
+pub given-exactly : (w : ℕ) (t : Bytes) (n : Told) → (told (judge w t) ≡ n) ↔ Given w t n
+given-exactly w t n = (λ e. subst (Given w t) e (judge-given w t), given-judge w t n)
 
 -- demand 2, of acceptance: a sheet is accepted exactly when it is one by document 01
 walked-all : (b : Board) (p : Player) (n : ℕ) (os : List (List ℕ)) (r : Result (Unit {0})) → Walked b p n os r → (u : Unit {0}) → r ≡ got u
@@ -276,38 +286,86 @@ walked-all : (b : Board) (p : Player) (n : ℕ) (os : List (List ℕ)) (r : Resu
 walked-all b p n os _ (all h) u e = h
 walked-all b p n os _ (first i k not-so so) u e = absurd (not-refused e)
 
-accepted→ : (w : ℕ) (t : Bytes) (s : Sheet) → accepted w t ≡ got s → IsSheet w t s
-unfolding accepted read fair satisfying
-accepted→ w t s e =
-    let a = then-got (read w t) _ s e in
-    let b = then-got (fair (a .0)) _ s (a .2) in
-    let c = then-got (refuseIf (ltb w leastWorkspace) SmallWorkspace) _ (a .0) (a .1) in
-    let d = then-got (refuseIf (ltb mostBytes (length t)) LongText) _ (a .0) (c .2) in
-    let f = then-got (refuseFault NotApart (firstNotApart (a .0))) _ (b .0) (b .1) in
-    let g = then-got (refuseFault NotElusive (firstNotElusive (a .0))) _ (b .0) (f .2) in
-    let h = then-got (refuseIf (ltb mostOutcomes (outcomeCount (a .0))) TooManyOutcomes) _ (b .0) (g .2) in
-    let i = then-got (refuseUnjoined (b .0 .board) (b .0 .player) 0 (outcomes (b .0))) _ s (b .2) in
-    let first-same : a .0 ≡ b .0 = got-inj (h .2) in
-    let last-same : b .0 ≡ s = got-inj (i .2) in
-    let same : a .0 ≡ s = first-same ∙ last-same in
+fair→ : (w : ℕ) (t : Bytes) (s : Sheet) → (read w t >>= fair) ≡ got s → IsFair w t s
+unfolding read fair
+fair→ w t s e =
+    let a = then-got (read w t) fair s e in
+    let b = then-got (refuseIf (ltb w leastWorkspace) SmallWorkspace) _ (a .0) (a .1) in
+    let c = then-got (refuseIf (ltb mostBytes (length t)) LongText) _ (a .0) (b .2) in
+    let d = then-got (refuseFault NotApart (firstNotApart (a .0))) _ s (a .2) in
+    let f = then-got (refuseFault NotElusive (firstNotElusive (a .0))) _ s (d .2) in
+    let g = then-got (refuseIf (ltb mostOutcomes (outcomeCount (a .0))) TooManyOutcomes) _ s (f .2) in
+    let same : a .0 ≡ s = got-inj (g .2) in
     record {
-      sizes = record { enough = ltb-false w leastWorkspace (refuseIf-got _ _ _ (c .1)); short = ltb-false mostBytes (length t) (refuseIf-got _ _ _ (d .1)) };
-      reads = d .2 ∙ ap got same;
-      apart = none-apart s (subst (λ (z : Sheet). firstNotApart z ≡ none) same (refuseFault-got _ _ _ (f .1)));
-      elusive = none-elusive s (subst (λ (z : Sheet). firstNotElusive z ≡ none) same (refuseFault-got _ _ _ (g .1)));
-      few = subst (λ (z : Sheet). outcomeCount z ≤ mostOutcomes) same (ltb-false mostOutcomes (outcomeCount (a .0)) (refuseIf-got _ _ _ (h .1)));
-      satisfying =
-          subst (λ (z : Sheet). AllJoin z) last-same
-          (walked-all (b .0 .board) (b .0 .player) 0 (outcomes (b .0)) _ (walked (b .0 .board) (b .0 .player) 0 (outcomes (b .0))) (i .0) (i .1));
+      sizes = record { enough = ltb-false w leastWorkspace (refuseIf-got _ _ _ (b .1)); short = ltb-false mostBytes (length t) (refuseIf-got _ _ _ (c .1)) };
+      reads = c .2 ∙ ap got same;
+      apart = none-apart s (subst (λ (z : Sheet). firstNotApart z ≡ none) same (refuseFault-got _ _ _ (d .1)));
+      elusive = none-elusive s (subst (λ (z : Sheet). firstNotElusive z ≡ none) same (refuseFault-got _ _ _ (f .1)));
+      few = subst (λ (z : Sheet). outcomeCount z ≤ mostOutcomes) same (ltb-false mostOutcomes (outcomeCount (a .0)) (refuseIf-got _ _ _ (g .1)));
     }
+
+→fair : (w : ℕ) (t : Bytes) (s : Sheet) → IsFair w t s → (read w t >>= fair) ≡ got s
+unfolding read refuseIf _>>=_
+→fair w t s h =
+    rw (le-ltb w leastWorkspace (h .sizes .enough), le-ltb mostBytes (length t) (h .sizes .short), h .reads)
+    (fair-passed s (apart-none s (h .apart)) (elusive-none s (h .elusive)) (h .few))
+
+-- what outcome asks of a sheet
+pub fair-exactly : (w : ℕ) (t : Bytes) (s : Sheet) → ((read w t >>= fair) ≡ got s) ↔ IsFair w t s
+fair-exactly w t s = (fair→ w t s, →fair w t s)
+
+-- acceptance is what comes after it
+pub accepted-fair : (w : ℕ) (t : Bytes) → accepted w t ≡ (read w t >>= fair >>= satisfying)
+unfolding accepted _>>=_
+accepted-fair w t = go (read w t) refl
+  where
+    go : (r : Result Sheet) → read w t ≡ r → accepted w t ≡ (read w t >>= fair >>= satisfying)
+    go (refused v) e = rw e
+    go (got s) e = rw e
+
+accepted→ : (w : ℕ) (t : Bytes) (s : Sheet) → accepted w t ≡ got s → IsSheet w t s
+unfolding satisfying
+accepted→ w t s e =
+    let a = then-got (read w t >>= fair) satisfying s (sym (accepted-fair w t) ∙ e) in
+    let b = then-got (refuseUnjoined (a .0 .board) (a .0 .player) 0 (outcomes (a .0))) _ s (a .2) in
+    let same : a .0 ≡ s = got-inj (b .2) in
+    let f = fair→ w t s (a .1 ∙ ap got same) in
+    record {
+      sizes = f .sizes;
+      reads = f .reads;
+      apart = f .apart;
+      elusive = f .elusive;
+      few = f .few;
+      satisfying =
+          subst (λ (z : Sheet). AllJoin z) same
+          (walked-all (a .0 .board) (a .0 .player) 0 (outcomes (a .0)) _ (walked (a .0 .board) (a .0 .player) 0 (outcomes (a .0))) (b .0) (b .1));
+    }
+
+-- a fair sheet is accepted where its outcomes join
+fair-accepted : (w : ℕ) (t : Bytes) (s : Sheet) → IsFair w t s → (r : Result (Unit {0})) → refuseUnjoined (s .board) (s .player) 0 (outcomes s) ≡ r
+    → accepted w t ≡ (r >>= λ u. got s)
+unfolding _>>=_
+fair-accepted w t s f r e = accepted-fair w t ∙ ap (λ (z : Result Sheet). z >>= satisfying) (→fair w t s f) ∙ fault-joined s r e
 
 →accepted : (w : ℕ) (t : Bytes) (s : Sheet) → IsSheet w t s → accepted w t ≡ got s
 unfolding _>>=_
 →accepted w t s h =
-    accepted-read w t (h .sizes)
-    ∙ ap (λ (r : Result Sheet). r >>= λ u. fair u >>= satisfying) (h .reads)
-    ∙ ap (λ (r : Result Sheet). r >>= satisfying) (fair-passed s (apart-none s (h .apart)) (elusive-none s (h .elusive)) (h .few))
-    ∙ fault-joined s (got tt) (all-joined (s .board) (s .player) 0 (outcomes s) (h .satisfying))
+    fair-accepted w t s (record { sizes = h .sizes; reads = h .reads; apart = h .apart; elusive = h .elusive; few = h .few }) (got tt)
+    (all-joined (s .board) (s .player) 0 (outcomes s) (h .satisfying))
 
 pub accepted-exactly : (w : ℕ) (t : Bytes) (s : Sheet) → (accepted w t ≡ got s) ↔ IsSheet w t s
 accepted-exactly w t s = (accepted→ w t s, →accepted w t s)
+
+-- a fair sheet is accepted, or refused with 13
+pub fair-judged : (w : ℕ) (t : Bytes) (s : Sheet) → IsFair w t s → told (judge w t) .number ≢ 0 → told (judge w t) .number ≡ 13
+unfolding judge
+fair-judged w t s f z =
+    subst⁻¹ Unjoined (fair-accepted w t s f (refuseUnjoined (s .board) (s .player) 0 (outcomes s)) refl)
+    (go (refuseUnjoined (s .board) (s .player) 0 (outcomes s)) (walked (s .board) (s .player) 0 (outcomes s))) z
+  where
+    Unjoined : Result Sheet → Type 0
+    Unjoined r = told (judged r) .number ≢ 0 → told (judged r) .number ≡ 13
+
+    go : (r : Result (Unit {0})) → Walked (s .board) (s .player) 0 (outcomes s) r → Unjoined (r >>= λ u. got s)
+    go _ (all h) = unfold judged _>>=_ in λ y. absurd (y refl)
+    go _ (first i k not-so so) = unfold judged _>>=_ in λ y. refl

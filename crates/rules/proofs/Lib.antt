@@ -12,5 +12,8 @@ pub mod Opening
 pub mod Answering
 pub mod EachOutcome
 pub mod Cover
+pub mod GoesOn
 pub mod OneReply
 pub mod Small
+pub mod OneMove
+pub mod Meets

@@ -13,13 +13,14 @@ use Rattle.rules.specs.Text.{Bytes, Reader, _orElse_}
 use Rattle.rules.specs.Lines.{Line, Header, headerLine, moveLine, dashLine, waitLine}
 use Rattle.rules.specs.Tree.{Move}
 use Rattle.rules.specs.Reading.{Result, refused, got, Spot, Reading, go, give, within, placed, atDepth, wellFormed, counted, nodeLine, inTurn, readMove, readWait, ended, readBody, headed, readSheet}
-use Rattle.rules.specs.Entries.{judge}
+use Rattle.rules.specs.Entries.{judged, judge}
 use Rattle.rules.specs.Plain.{Given, as-accepted, as-small, as-long, as-unread, as-not-apart, as-not-elusive, as-too-many, as-not-joined, OfReading, AcceptedAs}
 use Rattle.rules.specs.Verdict.{told}
 use Rattle.rules.specs.declared.Board.{Board}
+use Rattle.rules.specs.declared.Told.{Told}
 use Rattle.rules.specs.declared.Verdict.{Verdict}
 use Rattle.rules.specs.declared.Verdict.the-variants.{Accepted}
-use Rattle.rules.proofs.Given.{judge-given, given-judge}
+use Rattle.rules.proofs.Given.{judge-given, accepted-exactly}
 
 -- a refusal is of the reading
 Refuses : {X : Type 0} → Result X → Type 0
@@ -103,22 +104,25 @@ pub reading-refusals : (t : Bytes) (v : Verdict) → readSheet t ≡ refused v �
 unfolding Refuses readSheet
 reading-refusals t v e = subst Refuses e (headed-refuses (headerLine t))
 
+-- what is told with 0 is a sheet's
+pub given-zero : (w : ℕ) (t : Bytes) (n : Told) → n .number ≡ 0 → Given w t n → AcceptedAs w t (n .moves) (n .waits) (n .outcomes)
+given-zero w t _ e (as-accepted s h) = record { sheet = s; is-sheet = h; moves-are = refl; waits-are = refl; outcomes-are = refl }
+given-zero w t _ e (as-small h) = absurd (omega (arith, e))
+given-zero w t _ e (as-long h l) = absurd (omega (arith, e))
+given-zero w t _ e (as-unread v h r) = absurd (omega (arith, e, reading-refusals t v r .least))
+given-zero w t _ e (as-not-apart s f h r i) = absurd (omega (arith, e))
+given-zero w t _ e (as-not-elusive s f h r a i) = absurd (omega (arith, e))
+given-zero w t _ e (as-too-many s h r a k l) = absurd (omega (arith, e))
+given-zero w t _ e (as-not-joined s i h r a k l f) = absurd (omega (arith, e))
+
 -- demand 2, of judge's reply: it is accepted exactly for sheets, with their counts
-number-of : (v : Verdict) (m n o : ℕ) → v ≡ Accepted m n o → told v .number ≡ 0
-number-of v m n o e = ap (λ (u : Verdict). told u .number) e
-
-given-accepted : (w : ℕ) (t : Bytes) (m n o : ℕ) (v : Verdict) → v ≡ Accepted m n o → Given w t v → AcceptedAs w t m n o
-given-accepted w t m n o _ e (as-accepted s h) = record { sheet = s; is-sheet = h; moves-are = cc e; waits-are = cc e; outcomes-are = cc e }
-given-accepted w t m n o _ e (as-small h) = absurd (omega (arith, number-of _ m n o e))
-given-accepted w t m n o _ e (as-long h l) = absurd (omega (arith, number-of _ m n o e))
-given-accepted w t m n o _ e (as-unread v h r) = absurd (omega (arith, number-of v m n o e, reading-refusals t v r .least))
-given-accepted w t m n o _ e (as-not-apart s f h r i) = absurd (omega (arith, number-of _ m n o e))
-given-accepted w t m n o _ e (as-not-elusive s f h r a i) = absurd (omega (arith, number-of _ m n o e))
-given-accepted w t m n o _ e (as-too-many s h r a k l) = absurd (omega (arith, number-of _ m n o e))
-given-accepted w t m n o _ e (as-not-joined s i h r a k l f) = absurd (omega (arith, number-of _ m n o e))
-
 pub accepted-reply : (w : ℕ) (t : Bytes) (m n o : ℕ) → (judge w t ≡ Accepted m n o) ↔ AcceptedAs w t m n o
-accepted-reply w t m n o = (λ e. given-accepted w t m n o (judge w t) e (judge-given w t), back)
+accepted-reply w t m n o = (λ e. subst (λ (v : Verdict). Accepted-as v) e (λ z. given-zero w t _ z (judge-given w t)) refl, back)
   where
+    Accepted-as : Verdict → Type 0
+    Accepted-as v = told v .number ≡ 0 → AcceptedAs w t (told v .moves) (told v .waits) (told v .outcomes)
+
     back : AcceptedAs w t m n o → judge w t ≡ Accepted m n o
-    back a = given-judge w t (Accepted m n o) (rw (a .moves-are, a .waits-are, a .outcomes-are) (as-accepted (a .sheet) (a .is-sheet)))
+    back a =
+        unfold judge judged in
+        rw (accepted-exactly w t (a .sheet) .1 (a .is-sheet), a .moves-are, a .waits-are, a .outcomes-are)

@@ -13,5 +13,6 @@ pub mod Answering
 pub mod Entries
 pub mod Plain
 pub mod Promise
+pub mod GoesOn
 pub mod Samples
 pub mod Computed

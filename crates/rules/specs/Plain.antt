@@ -15,10 +15,10 @@ use Rattle.rules.specs.Reading.{refused, got, readSheet}
 use Rattle.rules.specs.Fair.{Fault, inWaits, holding, inEvery, notApart, notElusive}
 use Rattle.rules.specs.Outcomes.{outcomes, outcomeCount}
 use Rattle.rules.specs.Joining.{Joins}
-use Rattle.rules.specs.Verdict.{told}
+use Rattle.rules.specs.Verdict.{told, toldAs}
 use Rattle.rules.specs.declared.Board.{Board}
+use Rattle.rules.specs.declared.Told.{Told}
 use Rattle.rules.specs.declared.Verdict.{Verdict}
-use Rattle.rules.specs.declared.Verdict.the-variants.{Accepted, SmallWorkspace, LongText, NotApart, NotElusive, TooManyOutcomes, NotJoined}
 
 -- the numbers of the lines of nodes, in preorder
 unfoldable mutual
@@ -92,6 +92,14 @@ pub record IsSheet (workspace : ℕ) (t : Bytes) (s : Sheet) : Type 0 where
   pub few : outcomeCount s ≤ mostOutcomes
   pub satisfying : AllJoin s
 
+-- what outcome asks of a sheet: all but 13
+pub record IsFair (workspace : ℕ) (t : Bytes) (s : Sheet) : Type 0 where
+  pub sizes : WithinSizes workspace t
+  pub reads : readSheet t ≡ got s
+  pub apart : AllApart s
+  pub elusive : AllElusive s
+  pub few : outcomeCount s ≤ mostOutcomes
+
 -- A fault is the first faulty node's, with its smallest faulty cell
 pub record IsFirst {N : Type 0} (b : Board) (line : N → ℕ) (faulty : N → ℕ → Bool) (ns : List N) (f : Fault) : Type 0 where
   pub before : List N
@@ -109,20 +117,21 @@ pub record IsFirstUnjoined (s : Sheet) (i : ℕ) : Type 0 where
   pub not-joined : Joins (s .board) (s .player) (among (getD (outcomes s) i [])) → ⊥
   pub joined-before : (j : ℕ) → j < i → Joins (s .board) (s .player) (among (getD (outcomes s) j []))
 
--- The table's "given exactly when" for judge, a case for each kind of reply
-pub data Given (workspace : ℕ) (t : Bytes) : Verdict → Type 0 where
-  as-accepted : (s : Sheet) → IsSheet workspace t s → Given workspace t (Accepted (moveCount s) (waitCount s) (outcomeCount s))
-  as-small : workspace < leastWorkspace → Given workspace t SmallWorkspace
-  as-long : leastWorkspace ≤ workspace → mostBytes < length t → Given workspace t LongText
-  as-unread : (v : Verdict) → WithinSizes workspace t → readSheet t ≡ refused v → Given workspace t v
+-- The table's "given exactly when" for judge, in the paper's numbers: number, line, cell, index, and the counts
+pub data Given (workspace : ℕ) (t : Bytes) : Told → Type 0 where
+  as-accepted : (s : Sheet) → IsSheet workspace t s
+      → Given workspace t (record { number = 0; line = 0; cell = 0; index = 0; moves = moveCount s; waits = waitCount s; outcomes = outcomeCount s })
+  as-small : workspace < leastWorkspace → Given workspace t (toldAs 1 0 0 0)
+  as-long : leastWorkspace ≤ workspace → mostBytes < length t → Given workspace t (toldAs 2 0 0 0)
+  as-unread : (v : Verdict) → WithinSizes workspace t → readSheet t ≡ refused v → Given workspace t (told v)
   as-not-apart : (s : Sheet) (f : Fault) → WithinSizes workspace t → readSheet t ≡ got s → IsFirst (s .board) (λ m. m .line) notApart (everyMove s) f
-      → Given workspace t (NotApart (f .line) (f .cell))
+      → Given workspace t (toldAs 10 (f .line) (f .cell) 0)
   as-not-elusive : (s : Sheet) (f : Fault) → WithinSizes workspace t → readSheet t ≡ got s → AllApart s
-      → IsFirst (s .board) (λ w. w .line) notElusive (everyWait s) f → Given workspace t (NotElusive (f .line) (f .cell))
+      → IsFirst (s .board) (λ w. w .line) notElusive (everyWait s) f → Given workspace t (toldAs 11 (f .line) (f .cell) 0)
   as-too-many : (s : Sheet) → WithinSizes workspace t → readSheet t ≡ got s → AllApart s → AllElusive s → mostOutcomes < outcomeCount s
-      → Given workspace t TooManyOutcomes
+      → Given workspace t (toldAs 12 0 0 0)
   as-not-joined : (s : Sheet) (i : ℕ) → WithinSizes workspace t → readSheet t ≡ got s → AllApart s → AllElusive s → outcomeCount s ≤ mostOutcomes
-      → IsFirstUnjoined s i → Given workspace t (NotJoined i)
+      → IsFirstUnjoined s i → Given workspace t (toldAs 13 0 0 i)
 
 -- A refusal of the reading, by its number
 pub record OfReading (v : Verdict) : Type 0 where

@@ -6,8 +6,9 @@ use mathlib.Core.Bool.{not}
 use mathlib.Core.List.{List, [], _∷_}
 use mathlib.Core.Option.{some}
 use lib.Dec.{T}
-use lib.ListN.{length}
+use lib.ListN.{length, take, getD}
 use Rattle.rules.specs.Text.{Bytes}
+use Rattle.rules.specs.Board.{smallest}
 use Rattle.rules.specs.Tree.{Sheet, waitCount}
 use Rattle.rules.specs.Reading.{got}
 use Rattle.rules.specs.Fair.{holding}
@@ -70,9 +71,44 @@ abbrev pub Demand3Played : Type 0
 Demand3Played = (workspace : ℕ) (t : Bytes) (s : Sheet) → accepted workspace t ≡ got s → (xs : List ℕ) (g : Game) → Ruled s (start s) xs g
     → (room : ℕ) → length xs ≤ room → PlaysOut workspace t s xs room g
 
+-- Games from g to h against an opponent, by his own moves: until the sides are joined he makes the move that he picks in the game as it
+-- stands, and the answering rule answers
+pub data Against (s : Sheet) (opponent : Game → ℕ) : Game → List ℕ → Game → Type 0 where
+  no-turn : {g : Game} → Against s opponent g [] g
+  turn : {g h : Game} {xs : List ℕ} → T (not (isOver s g)) → Against s opponent (answered g (opponent g)) xs h → Against s opponent g (opponent g ∷ xs) h
+
+-- in every game that he comes to and that is not over, the opponent picks an empty cell
+abbrev pub MovesToEmpty : Sheet → (Game → ℕ) → Type 0
+MovesToEmpty s opponent = (xs : List ℕ) (g : Game) → Against s opponent (start s) xs g → T (not (isOver s g)) → T (isEmpty s g (opponent g))
+
+-- his game to its end: after these moves, no more than the sheet has waits, the sides are joined
+pub record JoinedAgainst (s : Sheet) (opponent : Game → ℕ) : Type 0 where
+  pub moves : List ℕ
+  pub game : Game
+  pub his : Against s opponent (start s) moves game
+  pub ruled : Ruled s (start s) moves game
+  pub joined : T (isOver s game)
+  pub within : length moves ≤ waitCount s
+
 -- Demand 3, to its end: against any opponent who moves to an empty cell until the sides are joined, they are joined after no
--- more opponent moves than the sheet has waits
+-- more of his moves than the sheet has waits
 abbrev pub Demand3Joined : Type 0
 Demand3Joined = (workspace : ℕ) (t : Bytes) (s : Sheet) → accepted workspace t ≡ got s
-    → (opponent : Game → ℕ) → ((g : Game) → T (not (isOver s g)) → T (isEmpty s g (opponent g)))
-    → (xs : List ℕ) × (g : Game) × Ruled s (start s) xs g × T (isOver s g) × (length xs ≤ waitCount s)
+    → (opponent : Game → ℕ) → MovesToEmpty s opponent → JoinedAgainst s opponent
+
+-- and there is such an opponent: he moves to the smallest empty cell
+abbrev pub Demand3Opposed : Type 0
+Demand3Opposed = (workspace : ℕ) (t : Bytes) (s : Sheet) → accepted workspace t ≡ got s → MovesToEmpty s (λ g. smallest (s .board) (isEmpty s g))
+
+-- The answer to the move at a place of the list (from 0): in the game as it stood before that move, its cell was empty, and it is not
+-- the cell of that move
+pub record AnsweredAt (s : Sheet) (moves : List ℕ) (place cell : ℕ) : Type 0 where
+  pub game : Game
+  pub before : Ruled s (start s) (take place moves) game
+  pub was-empty : T (isEmpty s game cell)
+  pub not-theirs : cell ≢ getD moves place 0
+
+-- Demand 3, answer by answer
+abbrev pub Demand3Each : Type 0
+Demand3Each = (workspace : ℕ) (t : Bytes) (s : Sheet) → accepted workspace t ≡ got s → (xs : List ℕ) (g : Game) → Ruled s (start s) xs g
+    → (place : ℕ) → place < length xs → AnsweredAt s xs place (getD (g .answers) place 0)
