@@ -13,3 +13,4 @@ pub mod Sides
 pub mod Smallest
 pub mod Words
 pub mod Growing
+pub mod OneReply

@@ -1,7 +1,9 @@
 // judge: the program. It reads a sheet from standard input and prints one line: verdict, line, cell, index, moves, waits,
 // outcomes. It sees sheet and report.
+ghost use mathlib.Core.Path.{_≡_};
 ghost use Prim.Native.Nat.{_≤_};
 ghost use lib.ListN.{length};
+ghost use Rattle.rules.specs.Sizes.{leastWorkspace};
 ghost use Rattle.report.specs.Line.{judgeLine};
 ghost use Rattle.report.specs.Writing.{Wrote};
 use libc::STDIN_FILENO;
@@ -18,11 +20,19 @@ fn write_judge(text: &[u8], workspace: &mut [u32], room: &mut [u8]) -> usize
     report(room, 0, verdict)
 }
 
-// Writes the first n bytes of the room to standard output.
-fn print(room: &[u8], n: usize)
-    requires { ⌜ n ≤ length (now room) ⌝ }
+// Writes the line of the sheet's verdict to standard output, whole. (The sheet is handed in to say whose line it is.)
+fn print(text: &[u8], line: &[u8])
+    requires { ⌜ now line ≡ judgeLine leastWorkspace (now text) ⌝ }
 {
-    io::write_all(STDOUT_FILENO, &room[..n]);
+    io::write_all(STDOUT_FILENO, line);
+}
+
+// Judges the sheet and prints its line.
+fn print_judge(text: &[u8], workspace: &mut [u32], room: &mut [u8])
+    requires { ⌜ (length (now workspace) ≡ leastWorkspace) × (77 ≤ length (now room)) ⌝ }
+{
+    let end = write_judge(text, workspace, room);
+    print(text, &room[..end]);
 }
 
 fn main() {
@@ -31,6 +41,5 @@ fn main() {
     let n = io::read_full(STDIN_FILENO, &mut text);
     let mut workspace = [0u32; 8192];
     let mut room = [0u8; 77];
-    let length = write_judge(&text[..n], &mut workspace, &mut room);
-    print(&room, length);
+    print_judge(&text[..n], &mut workspace, &mut room);
 }

@@ -244,21 +244,21 @@ fn cell_line(s: &[u8], at: usize, dash: bool) -> LineRead
 }
 
 // A move's line.
-pub fn move_line(s: &[u8], at: usize) -> LineRead
+fn move_line(s: &[u8], at: usize) -> LineRead
     ensures { λ r. ⌜ Reads (now (s .entry)) at L.moveLine (lineSeen r) ⌝ }
 {
     cell_line(s, at, false)
 }
 
 // The first node's line: only there may `-` stand instead of a cell.
-pub fn first_line(s: &[u8], at: usize) -> LineRead
+fn first_line(s: &[u8], at: usize) -> LineRead
     ensures { λ r. ⌜ Reads (now (s .entry)) at (L.moveLine orElse L.dashLine) (lineSeen r) ⌝ }
 {
     cell_line(s, at, true)
 }
 
 // A wait's line: `w`, number of moves under it.
-pub fn wait_line(s: &[u8], at: usize) -> LineRead
+fn wait_line(s: &[u8], at: usize) -> LineRead
     ensures { λ r. ⌜ Reads (now (s .entry)) at L.waitLine (lineSeen r) ⌝ }
 {
     let Next::At(number) = begun_at(s, at, b'w') else {

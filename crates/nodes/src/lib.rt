@@ -118,7 +118,7 @@ pub fn weigh_move(t: &mut [u32], i: usize) -> Weight
 }
 
 // Weighs the wait at node i and all under it.
-pub fn weigh_wait(t: &mut [u32], i: usize) -> Weight
+fn weigh_wait(t: &mut [u32], i: usize) -> Weight
     requires stands { ⌜ SomeNode (Row (now t)) aWait i ⌝ }
     requires small { ⌜ length (now t) ≤ leastWorkspace ⌝ }
     ensures { λ r. ⌜ WeighsAny aWait (now (t .entry)) i (r .count) (r .next) (now (t .exit)) ⌝ }

@@ -45,7 +45,7 @@ pub fn pick_move(t: &[u32], board: Board, i: usize, number: usize, set: Cells) -
 }
 
 // The cells of the outcome with the number of the wait at node i, added to a set: the first move's outcomes come first.
-pub fn pick_wait(t: &[u32], board: Board, i: usize, number: usize, set: Cells) -> Cells
+fn pick_wait(t: &[u32], board: Board, i: usize, number: usize, set: Cells) -> Cells
     requires fits { ⌜ Fits board ⌝ }
     requires stands { ⌜ SomeWaitPick board (now t) i number ⌝ }
     ensures { λ r. ⌜ WaitPicked board (now (t .entry)) i number (set .rows) (r .rows) ⌝ }

@@ -2,3 +2,4 @@ pub mod Line
 pub mod Storing
 pub mod Standing
 pub mod Body
+pub mod OneReply

@@ -16,14 +16,14 @@ use rules::Board;
 use rules::Verdict;
 
 // Where the reading stands: the place in the body, the number of the line there, and the nodes read so far.
-pub struct Spot {
-    pub at: usize,
-    pub line: usize,
-    pub nodes: usize,
+struct Spot {
+    at: usize,
+    line: usize,
+    nodes: usize,
 }
 
 // What a node's line says: its cell's number, the number of nodes under it, and where the next line begins; or the refusal.
-pub enum Said {
+enum Said {
     Got { cell: u32, under: u32, next: usize },
     Refused { verdict: Verdict },
 }
@@ -80,13 +80,13 @@ fn kind_below(kind: Kind) -> Kind
 }
 
 // What was read: the spot after it, or the refusal.
-pub enum Read {
+enum Read {
     Got { after: Spot },
     Refused { verdict: Verdict },
 }
 
 // A node of the kind with all under it, stored in the table, where so many levels are left, its own among them.
-pub fn read_node(
+fn read_node(
     body: &[u8],
     table: &mut [u32],
     board: Board,

@@ -6,7 +6,7 @@ use native.Mathlib.Numerals.{add-one}
 use native.Mathlib.Nat.{add-zero}
 use native.Mathlib.Omega.{arith}
 use lib.ListN.{length, take, drop, set, length-append, length-take, length-drop, take-append-drop}
-use lib.Seq.{set-split, append-snoc, take-at, drop-at, drop-drop}
+use lib.Seq.{set-split, append-snoc, take-at, drop-at, drop-drop, take-append-seam}
 use Rattle.rules.specs.Text.{Bytes}
 use Rattle.report.specs.Writing.{Wrote}
 
@@ -47,3 +47,9 @@ wrote-then {a} {b} {room} {at} {room₁} {e₁} {room₂} {e₂} p q =
       ends = q .ends ∙ sym sum;
       pasted = rw (sum, q .pasted, before, after) (simp append-assoc);
     }
+
+-- what was written from the first byte on is all that stands before its end
+pub wrote-front : {text room room′ : Bytes} {end : ℕ} → Wrote text room 0 room′ end → take end room′ ≡ text
+wrote-front {text} {room} {room′} {end} w =
+    let ends : end ≡ length text = omega (arith, w .ends) in
+    rw (w .pasted, ends) (take-append-seam text (drop (0 + length text) room))

@@ -82,7 +82,7 @@ fn digit(d: u32) -> u8
 }
 
 // Writes one byte, and returns the place after it.
-pub fn write_byte(room: &mut [u8], at: usize, b: u8) -> usize
+fn write_byte(room: &mut [u8], at: usize, b: u8) -> usize
     requires { ⌜ at < length (now room) ⌝ }
     ensures { λ r. ⌜ Wrote (b ∷ []) (now (room .entry)) at (now (room .exit)) r ⌝ }
 {
@@ -91,7 +91,7 @@ pub fn write_byte(room: &mut [u8], at: usize, b: u8) -> usize
 }
 
 // Writes a number from its highest digit, and returns the place after it.
-pub fn write_number(room: &mut [u8], at: usize, n: u32) -> usize
+fn write_number(room: &mut [u8], at: usize, n: u32) -> usize
     requires { ⌜ at + 10 ≤ length (now room) ⌝ }
     ensures { λ r. ⌜ WroteWithin 10 (decimal n) (now (room .entry)) at (now (room .exit)) r ⌝ }
 {
@@ -103,7 +103,7 @@ pub fn write_number(room: &mut [u8], at: usize, n: u32) -> usize
 }
 
 // Writes further numbers of a line, each after a tab, and returns the place after them.
-pub fn write_fields(room: &mut [u8], at: usize, numbers: &[u32]) -> usize
+fn write_fields(room: &mut [u8], at: usize, numbers: &[u32]) -> usize
     requires { ⌜ at + 11 * length (now numbers) ≤ length (now room) ⌝ }
     ensures { λ r. ⌜ WroteWithin (11 * length (now (numbers .entry))) (fields (now (numbers .entry))) (now (room .entry)) at (now (room .exit)) r ⌝ }
 {

@@ -6,3 +6,4 @@ pub mod Naming
 pub mod Playing
 pub mod Promise
 pub mod Copying
+pub mod Meets

@@ -1,7 +1,8 @@
 -- Demand 3 of the entries: from their contracts and the theorems of rules.
 use mathlib.Core.Path.{_≡_, refl, sym, ap, _∙_}
-use Prim.Native.Nat.{ℕ, _≤_}
-use lib.ListN.{length}
+use Prim.Native.Nat.{ℕ, _<_, _≤_}
+use mathlib.Core.List.{List}
+use lib.ListN.{length, getD, List·getD-append}
 use native.Mathlib.Omega.{arith}
 use Rattle.rules.specs.Sizes.{leastWorkspace}
 use Rattle.rules.specs.Text.{Bytes}
@@ -15,7 +16,7 @@ use Rattle.rules.specs.declared.Verdict.the-variants.{Done}
 use Rattle.rules.proofs.Tests.{true-of}
 use Rattle.rules.proofs.Given.{accepted-exactly}
 use Rattle.rules.proofs.Refusals.{accepted-reply}
-use Rattle.rules.proofs.Cover.{demand-3, demand-3-joined, demand-3-played}
+use Rattle.rules.proofs.Cover.{demand-3, demand-3-joined, demand-3-played, demand-3-each}
 use Rattle.sheet.specs.Promise.{PlayKeeps, PlayEnds, CoversPlay}
 
 -- another workspace that suffices changes nothing
@@ -28,14 +29,22 @@ module _ (t : Bytes) (s : Sheet) (h : IsSheet leastWorkspace t s) where
   accepted-in w l = accepted-exactly w t s .1 (in-another leastWorkspace w t s l h)
 
   play-keeps : PlayKeeps t s
-  play-keeps ws moves room r after later k l enough g ruled =
-      let a = accepted-in (length ws) l in
-      let p = demand-3-played (length ws) t s a moves g ruled (length room) enough in
-      let c = demand-3 (length ws) t s a moves g ruled in
+  unfolding roomAfter
+  play-keeps moves room r later p g ruled =
+      let w = length (p .workspace) in
+      let k = p .kept in
+      let a = accepted-in w (p .enough) in
+      let d = demand-3-played w t s a moves g ruled (length room) (p .room-enough) in
+      let c = demand-3 w t s a moves g ruled in
+      let written : later ≡ roomAfter (g .answers) room = k .answers ∙ ap (λ (z : PlayReply). roomAfter (z .answers) room) (d .reply) in
+      let there : (place : ℕ) → place < length moves → getD later place 0 ≡ getD (g .answers) place 0 =
+          λ place small. ap (λ (l : List ℕ). getD l place 0) written ∙ List·getD-append (g .answers) _ 0 place (omega (arith, small, d .one-each))
+      in
       record {
-        reply = k .reply ∙ ap playShown (p .reply) ∙ shown (p .one-each);
-        one-each = p .one-each;
-        written = k .answers ∙ ap (λ (z : PlayReply). roomAfter (z .answers) room) (p .reply);
+        reply = k .reply ∙ ap playShown (d .reply) ∙ shown (d .one-each);
+        one-each = d .one-each;
+        written = written;
+        each = λ place small. rw (there place small) (demand-3-each w t s a moves g ruled place small);
         covered = c .0;
         answered = c .1;
       }
@@ -46,13 +55,14 @@ module _ (t : Bytes) (s : Sheet) (h : IsSheet leastWorkspace t s) where
 
   play-ends : PlayEnds t s
   play-ends opponent to-empty =
-      let j = demand-3-joined leastWorkspace t s (accepted-in leastWorkspace (omega arith)) opponent to-empty in (
-        j .0,
-        j .4,
-        λ ws room r after later k l enough.
-            let kept = play-keeps ws (j .0) room r after later k l enough (j .1) (j .2) in
-            ap (λ (z : Played). z .over) (kept .reply) ∙ true-of (isOver s (j .1)) (j .3),
-      )
+      let j = demand-3-joined leastWorkspace t s (accepted-in leastWorkspace (omega arith)) opponent to-empty in
+      record {
+        end = j;
+        plays =
+            λ room r later p.
+            let kept = play-keeps (j .moves) room r later p (j .game) (j .ruled) in
+            (kept, ap (λ (z : Played). z .over) (kept .reply) ∙ true-of (isOver s (j .game)) (j .joined));
+      }
 
 pub covers-play : CoversPlay
 covers-play ws t m n o after k =
