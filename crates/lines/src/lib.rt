@@ -4,7 +4,7 @@ ghost use mathlib.Core.Path.{_≡_};
 ghost use Prim.Native.Nat.{_+_, _*_, _-_, _<_, _≤_, min};
 ghost use lib.ListN.{length, drop};
 ghost use Rattle.rules.specs.Sizes.{mostUnder};
-ghost use Rattle.rules.specs.Text.{_orElse_, byte, word, digits, wellSpelled, numberIn};
+ghost use Rattle.rules.specs.Text.{byte, word, digits, wellSpelled, numberIn};
 ghost use Rattle.rules.specs.Lines as L;
 ghost use Rattle.lines.specs.Run.{ceiling, runAt};
 ghost use Rattle.lines.specs.Parts as parts;
@@ -243,20 +243,6 @@ fn cell_line(s: &[u8], at: usize, dash: bool) -> LineRead
     }
 }
 
-// A move's line.
-fn move_line(s: &[u8], at: usize) -> LineRead
-    ensures { λ r. ⌜ Reads (now (s .entry)) at L.moveLine (lineSeen r) ⌝ }
-{
-    cell_line(s, at, false)
-}
-
-// The first node's line: only there may `-` stand instead of a cell.
-fn first_line(s: &[u8], at: usize) -> LineRead
-    ensures { λ r. ⌜ Reads (now (s .entry)) at (L.moveLine orElse L.dashLine) (lineSeen r) ⌝ }
-{
-    cell_line(s, at, true)
-}
-
 // A wait's line: `w`, number of moves under it.
 fn wait_line(s: &[u8], at: usize) -> LineRead
     ensures { λ r. ⌜ Reads (now (s .entry)) at L.waitLine (lineSeen r) ⌝ }
@@ -283,13 +269,13 @@ pub enum Kind {
     Wait,
 }
 
-// The line of a node of the kind.
+// The line of a node of the kind: only the first node may have `-` instead of a cell.
 pub fn node_line(s: &[u8], at: usize, kind: Kind) -> LineRead
     ensures { λ r. ⌜ Reads (now (s .entry)) at (parts.lineOf kind) (lineSeen r) ⌝ }
 {
     match kind {
-        Kind::First => first_line(s, at),
-        Kind::Move => move_line(s, at),
+        Kind::First => cell_line(s, at, true),
+        Kind::Move => cell_line(s, at, false),
         Kind::Wait => wait_line(s, at),
     }
 }

@@ -38,7 +38,7 @@ module _ (t : Bytes) (s : Sheet) (h : IsSheet leastWorkspace t s) where
       let c = demand-3 w t s a moves g ruled in
       let written : later ≡ roomAfter (g .answers) room = k .answers ∙ ap (λ (z : PlayReply). roomAfter (z .answers) room) (d .reply) in
       let there : (place : ℕ) → place < length moves → getD later place 0 ≡ getD (g .answers) place 0 =
-          λ place small. ap (λ (l : List ℕ). getD l place 0) written ∙ List·getD-append (g .answers) _ 0 place (omega (arith, small, d .one-each))
+      λ place small. ap (λ (l : List ℕ). getD l place 0) written ∙ List·getD-append (g .answers) _ 0 place (omega (arith, small, d .one-each))
       in
       record {
         reply = k .reply ∙ ap playShown (d .reply) ∙ shown (d .one-each);

@@ -8,19 +8,15 @@ use Rattle.report.specs.Line.{judgeLine}
 use Rattle.report.proofs.Writing.{wrote-length, wrote-front}
 use Rattle.judge.proofs.print_judge.Statement.{statement}
 use Rattle.judge.proofs.print_judge.Tie as tie
-use Rattle.judge.proofs.print_judge.Reads as reads
-use Rattle.judge.proofs.print_judge.Lts as lts
-use Rattle.judge.proofs.print.Reads as print-reads
-use Rattle.judge.proofs.write_judge.Reads as write-judge-reads
-
-slice-aggregate-print : tie.Need-slice-aggregate-print
-slice-aggregate-print c =
-    let w = c .before .before .before .before .before .write-judge .ensures in sym (length-take-le _ _ (omega (arith, w .fits, w .ends, wrote-length w)))
 
 print-requires : tie.Need-print-requires
 print-requires c κs =
     let begin = c .before .before .before .before .before .before .before .before .before .before .before in
     wrote-front (c .before .before .before .before .before .write-judge .ensures) ∙ ap (λ (n : ℕ). judgeLine n (begin .args .text .now)) (begin .pre .0)
+
+slice-aggregate-print : tie.Need-slice-aggregate-print
+slice-aggregate-print c =
+    let w = c .before .before .before .before .before .write-judge .ensures in sym (length-take-le _ _ (omega (arith, w .fits, w .ends, wrote-length w)))
 
 pub print-judge-spec : {M : Type 1} → statement M
 print-judge-spec =

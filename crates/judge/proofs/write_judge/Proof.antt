@@ -12,4 +12,4 @@ write-judge-spec =
     (λ c κs. search needs)
     (λ c. search needs)
     (λ c. search needs)
-    (λ c. search wrote-judge))
+    (λ c. wrote-judge (c .before .before .before .before .before .before .judge .ensures) (c .before .before .report .ensures)))
