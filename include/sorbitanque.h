@@ -58,11 +58,35 @@ enum {
   SORBITANQUE_DETAILS = 7
 };
 
-/* Each function is given pointers that are not null, even where a length is 0; each `_length` counts the bytes or the numbers that
-   its pointer leads to, and what a function may write overlaps nothing else that it is given. All seven details are written by
-   every call; line, cell and index are 0 where the verdict's sentence does not name them. The sheet and the moves are only read.
-   The first 8,192 numbers of the workspace are 0 after every call and the rest as it was; after verdict 1 all of it is as it was.
-   The room changes on verdict 0 alone, and only in as many first places as there are answers or cells. */
+/* The places of the details. */
+enum {
+  SORBITANQUE_VERDICT = 0,
+  SORBITANQUE_LINE = 1,
+  SORBITANQUE_CELL = 2,
+  SORBITANQUE_INDEX = 3,
+  /* of judge */
+  SORBITANQUE_MOVES = 4,
+  SORBITANQUE_WAITS = 5,
+  SORBITANQUE_OUTCOMES = 6,
+  /* of play */
+  SORBITANQUE_PLACE = 4,
+  SORBITANQUE_ANSWERS = 5,
+  SORBITANQUE_OVER = 6,
+  /* of outcome; the two places after it are 0 */
+  SORBITANQUE_CELLS = 4
+};
+
+/* What each function asks of its caller, and what it leaves:
+   - The archive is x86-64 code for Linux and links into x86-64 programs alone.
+   - Pointers are not null, even where a length is 0. Those to numbers are aligned as uint32_t is; the sheet's needs no alignment.
+   - Each `_length` counts the bytes or the numbers that its pointer leads to.
+   - What a function may write (room, workspace, details) overlaps nothing else that it is given. Sheet and moves are only read, and may overlap.
+   - No function keeps anything between calls or has memory of its own but the stack: calls may run side by side, in threads or in a signal handler, as
+     long as each has a room, a workspace and details of its own.
+   - No call was seen to take more than 40 KB of stack, on sheets of every depth there is; give it 64 KB. Each is run in 128 KB with its caller.
+   - All seven details are written by every call; line, cell and index are 0 where the verdict's sentence does not name them.
+   - The first 8,192 numbers of the workspace are 0 after every call and the rest as it was; after verdict 1 all of it is as it was.
+   - The room changes on verdict 0 alone, and only in as many first places as there are answers or cells. */
 
 /* Judges a sheet; the details are verdict, line, cell, index, and the counts of moves, waits and outcomes, all three 0 on a refusal. */
 void sorbitanque_judge(const uint8_t *sheet, size_t sheet_length,
