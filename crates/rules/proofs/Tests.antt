@@ -5,6 +5,7 @@ use mathlib.Core.Bool.{Bool, true, false, not, cond, _&&_, _||_}
 use mathlib.Core.Logic.{_⊎_, inl, inr}
 use lib.Dec.{T}
 use Rattle.rules.specs.Words.{oneIf}
+use Rattle.rules.specs.Computed.{samples, traps-told}
 
 pub holds-of : {b : Bool} → b ≡ true → T b
 holds-of e = subst⁻¹ T e tt
