@@ -83,7 +83,7 @@ enum {
    - What a function may write (room, workspace, details) overlaps nothing else that it is given. Sheet and moves are only read, and may overlap.
    - No function keeps anything between calls or has memory of its own but the stack: calls may run side by side, in threads or in a signal handler, as
      long as each has a room, a workspace and details of its own.
-   - No call was seen to take more than 40 KB of stack, on sheets of every depth there is; give it 64 KB. Each is run in 128 KB with its caller.
+   - Of the seven sheets measured (docs/FIGURES.md), depth 127 among them, none took a call more than 40 KB of stack; no bound is proved. Give it 64 KB.
    - All seven details are written by every call; line, cell and index are 0 where the verdict's sentence does not name them.
    - The first 8,192 numbers of the workspace are 0 after every call and the rest as it was; after verdict 1 all of it is as it was.
    - The room changes on verdict 0 alone, and only in as many first places as there are answers or cells. */

@@ -1,6 +1,5 @@
 -- The words of a set are private to this crate, so others see its cells alone: sets that hold the same cells of a board are told alike.
 use mathlib.Core.Path.{_≡_, ap, fun-ext}
-use mathlib.Core.Bool.{Bool}
 use Prim.Native.Nat.{ℕ}
 use mathlib.Core.List.{List}
 use Rattle.rules.specs.Board.{smallest, listed}

@@ -1,15 +1,13 @@
 -- A line is read in one way: two answers that the contract of `header_line`, or of `node_line`, allows are equal.
 use mathlib.Core.Path.{_≡_, refl, sym, ap, _∙_}
-use Prim.Native.Nat.{ℕ, _-_, _≤_}
+use Prim.Native.Nat.{ℕ}
 use native.Mathlib.Omega.{arith}
 use mathlib.Core.Option.{Option, none, some}
 use lib.ListN.{length, drop, length-drop}
 use Rattle.rules.specs.Text.{Bytes, Reader}
 use Rattle.rules.specs.Lines as L
-use Rattle.rules.specs.declared.Board.{Board}
-use Rattle.rules.specs.declared.Player.{Player}
 use Rattle.rules.proofs.Steps.{none≢some, some-inj}
-use Rattle.lines.specs.Seen.{Reads, placeOf, said, lineSeen, headerSeen}
+use Rattle.lines.specs.Seen.{Reads, placeOf, lineSeen, headerSeen}
 use Rattle.lines.specs.Parts.{lineOf}
 use Rattle.lines.specs.declared.Kind.{Kind}
 use Rattle.lines.specs.declared.Cell.{Cell}

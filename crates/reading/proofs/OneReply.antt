@@ -4,7 +4,6 @@ use mathlib.Core.List.{List}
 use Prim.Native.Nat.{ℕ}
 use Rattle.rules.specs.Text.{Bytes}
 use Rattle.rules.specs.declared.Board.{Board}
-use Rattle.rules.specs.declared.Player.{Player}
 use Rattle.rules.specs.declared.Player.the-variants.{D}
 use Rattle.rules.proofs.Steps.{not-refused}
 use Rattle.reading.specs.Kept.{BodyReply, BodyKept}

@@ -20,9 +20,9 @@ use Rattle.rules.specs.Reading.{got}
 use Rattle.rules.specs.Fair.{inWaits, inMoves, inMove, holding, inEvery}
 use Rattle.rules.specs.Outcomes.{outcomes, outcomesOfWaits}
 use Rattle.rules.specs.Answering.{Choice, taken, opened, allowed, answer, Game, start, mine, isOver, isTaken, isEmpty, next, answeredBy, answered}
-use Rattle.rules.specs.Entries.{accepted, _>>=_, refuseIf, step, played, rounds, playedOut, playOn, play}
+use Rattle.rules.specs.Entries.{_>>=_, refuseIf, step, played, rounds, playedOut, playOn, play}
 use Rattle.rules.specs.Plain.{IsApart, IsElusive, IsSheet}
-use Rattle.rules.specs.Promise.{Chosen, no-round, round, Ruled, no-move, one-move, Against, no-turn, turn, MovesToEmpty, Covered, AnsweredAt, Demand3, Demand3Chosen, Demand3Played, Demand3Joined, Demand3Opposed, Demand3Each}
+use Rattle.rules.specs.Promise.{Chosen, no-round, round, Ruled, no-move, one-move, Against, no-turn, turn, MovesToEmpty, Covered, Demand3, Demand3Chosen, Demand3Played, Demand3Joined, Demand3Opposed, Demand3Each}
 use Rattle.rules.specs.declared.Board.{Board}
 use Rattle.rules.proofs.Tests.{true-of, false-of, decide, both, fst, snd, left, cases, nor}
 use Rattle.rules.proofs.Lists.{in-append, in-first, in-second, append-left, append-right}

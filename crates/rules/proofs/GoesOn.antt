@@ -1,9 +1,9 @@
 -- The rows of the table for play and outcome: each is given exactly when its plain statement holds.
 use mathlib.Core.Path.{_≡_, refl, sym, ap, subst, subst⁻¹, _∙_}
 use mathlib.Core.Logic.{_≢_, _↔_, ⊎-elim}
-use Prim.Native.Nat.{ℕ, zero, suc, _+_, _≤_, _<_}
+use Prim.Native.Nat.{ℕ, suc, _+_, _≤_, _<_}
 use mathlib.Core.Bool.{Bool, true, false, not}
-use mathlib.Core.List.{List, [], _∷_, _++_}
+use mathlib.Core.List.{List, [], _∷_}
 use lib.Dec.{T, T-not, ltb}
 use lib.ListN.{length, take, drop, getD}
 use lib.Seq.{split-at, length-take-le}
@@ -16,7 +16,7 @@ use Rattle.rules.specs.Reading.{Result, refused, got}
 use Rattle.rules.specs.Outcomes.{outcomeCount}
 use Rattle.rules.specs.Answering.{Game, start, isOver, isTaken, isEmpty, answered}
 use Rattle.rules.specs.Entries.{_>>=_, refuseIf, read, fair, accepted, judged, judge, step, Rounds, stopped, played, rounds, refusedPlay, playedOut, playOn, play, outcomeCells, named, outcome, JudgeKept, PlayKept, playShown, OutcomeKept, outcomeShown}
-use Rattle.rules.specs.Verdict.{told, toldAs}
+use Rattle.rules.specs.Verdict.{told}
 use Rattle.rules.specs.Plain.{IsSheet, IsFair, Given, as-accepted, as-small, as-long, as-unread, as-not-apart, as-not-elusive, as-too-many, as-not-joined}
 use Rattle.rules.specs.Promise.{Ruled, no-move, one-move}
 use Rattle.rules.specs.GoesOn.{Refuses, as-after-over, as-no-cell, as-taken, RefusedAt, GivenPlay, play-judged, play-short, play-refused, play-done, GivenOutcome, outcome-judged, outcome-none, outcome-short, outcome-done}
@@ -26,7 +26,7 @@ use Rattle.rules.specs.declared.Told.{Told}
 use Rattle.rules.specs.declared.Verdict.{Verdict}
 use Rattle.rules.specs.declared.Verdict.the-variants.{AfterOver, NoSuchCell, CellTaken, ShortRoom, NoSuchOutcome}
 use Rattle.rules.proofs.Tests.{true-of, false-of, decide, both}
-use Rattle.rules.proofs.Steps.{got-inj, then-got, refuseIf-got, not-refused}
+use Rattle.rules.proofs.Steps.{not-refused}
 use Rattle.rules.proofs.Given.{accepted-exactly, accepted-fair, fair-exactly, fair-judged, judge-given, given-judge, given-exactly}
 use Rattle.rules.proofs.Refusals.{reading-refusals, given-zero}
 use Rattle.rules.proofs.Cover.{ruled-rounds, ruled-played}

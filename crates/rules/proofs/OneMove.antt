@@ -5,7 +5,7 @@ use Prim.Native.Nat.{ℕ}
 use mathlib.Core.Bool.{true, _||_}
 use lib.Dec.{T, eqb, eqb-refl}
 use Rattle.rules.specs.Words.{_∈_, at-head, in-tail}
-use Rattle.rules.specs.Tree.{Waits, noWaits, wait, Moves, noMoves, move, Wait, Move, Sheet, movesOfWaits, movesOfMoves, waitsOfWaits, waitsOfMoves, everyWait}
+use Rattle.rules.specs.Tree.{Waits, wait, Moves, noMoves, move, Wait, Move, Sheet, movesOfWaits, movesOfMoves, waitsOfWaits, waitsOfMoves, everyWait}
 use Rattle.rules.specs.Fair.{inWaits, inMove, inEvery}
 use Rattle.rules.specs.Plain.{WellRead, IsElusive}
 use Rattle.rules.proofs.Tests.{left, both}
