@@ -29,14 +29,14 @@ same-tables t v s f = ext-getD 0 v t (s .long) (λ m h. subst (λ (k : ℕ). get
     by-rest i (suc (suc (suc (suc r)))) h = absurd (omega arith)
 
 -- the marks are those of the open waits
-same-marks : {b : Board} {t v : List ℕ} {n i : ℕ} (ws : Waits) → Open b t n i ws → Open b v n i ws → (m : ℕ) → i ≤ m → m < n → countIn v m ≡ countIn t m
+same-marks : {n₁ : ℕ} {b : Board} {t v : List ℕ} {n i : ℕ} (ws : Waits) → Open n₁ b t n i ws → Open n₁ b v n i ws → (m : ℕ) → i ≤ m → m < n → countIn v m ≡ countIn t m
 same-marks noWaits (none-open q c) (none-open p d) m lo hi = d .clear m lo hi ∙ sym (c .clear m lo hi)
-same-marks {b} {t} {v} {n} {i} (wait line ms ws) (open-at j q c o r) (open-at k p d u w) m lo hi =
+same-marks {n₁} {b} {t} {v} {n} {i} (wait line ms ws) (open-at j q c o r) (open-at k p d u w) m lo hi =
     let e : k ≡ j = omega (arith, o .line-is, u .line-is) in
-    go (subst (λ (z : ℕ). Clear v i z) e d) (subst (λ (z : ℕ). OpenWait b v z line ms) e u)
-    (λ h. same-marks ws r (subst (λ (z : ℕ). Open b v n (z + 1 + size (nodesOfMoves ms)) ws) e w) m h hi)
+    go (subst (λ (z : ℕ). Clear v i z) e d) (subst (λ (z : ℕ). OpenWait n₁ b v z line ms) e u)
+    (λ h. same-marks ws r (subst (λ (z : ℕ). Open n₁ b v n (z + 1 + size (nodesOfMoves ms)) ws) e w) m h hi)
   where
-    go : Clear v i j → OpenWait b v j line ms → (j + 1 + size (nodesOfMoves ms) ≤ m → countIn v m ≡ countIn t m) → countIn v m ≡ countIn t m
+    go : Clear v i j → OpenWait n₁ b v j line ms → (j + 1 + size (nodesOfMoves ms) ≤ m → countIn v m ≡ countIn t m) → countIn v m ≡ countIn t m
     go d u later =
         ⊎-elim
         (λ z. later (omega arith))
@@ -57,8 +57,8 @@ pub record OneReply (r r₂ : PlayedOut) (t t₂ room room₂ : List ℕ) : Type
   pub same-room : room ≡ room₂
 
 -- two tables with the same open waits, of which each is one table remarked
-same-open : {b : Board} {t u v : List ℕ} {ws : Waits} → Remarked t u → Remarked t v → Opens b u ws → Opens b v ws → v ≡ u
-same-open {b} {t} {u} {v} {ws} p q o w = same-tables u v (same-twice (same-back (p .rows)) (q .rows)) (λ i. ⊎-elim (first i) (λ h. ⊎-elim (λ z. past i (omega arith)) (λ z. inside i h (omega arith)) (eq-zero-or-pos (endIn t 0 - i))) (eq-zero-or-pos i))
+same-open : {n₁ : ℕ} {b : Board} {t u v : List ℕ} {ws : Waits} → Remarked t u → Remarked t v → Opens n₁ b u ws → Opens n₁ b v ws → v ≡ u
+same-open {n₁} {b} {t} {u} {v} {ws} p q o w = same-tables u v (same-twice (same-back (p .rows)) (q .rows)) (λ i. ⊎-elim (first i) (λ h. ⊎-elim (λ z. past i (omega arith)) (λ z. inside i h (omega arith)) (eq-zero-or-pos (endIn t 0 - i))) (eq-zero-or-pos i))
   where
     first : (i : ℕ) → i ≡ 0 → countIn v i ≡ countIn u i
     first i e = rw e (w .root ∙ sym (o .root))
@@ -69,7 +69,7 @@ same-open {b} {t} {u} {v} {ws} p q o w = same-tables u v (same-twice (same-back 
     inside : (i : ℕ) → 1 ≤ i → i < endIn t 0 → countIn v i ≡ countIn u i
     inside i lo hi =
         let e : endIn v 0 ≡ endIn u 0 = q .rows .end 0 ∙ sym (p .rows .end 0) in
-        same-marks ws (o .marks) (subst (λ (n : ℕ). Open b v n 1 ws) e (w .marks)) i lo (omega (arith, p .rows .end 0))
+        same-marks ws (o .marks) (subst (λ (n : ℕ). Open n₁ b v n 1 ws) e (w .marks)) i lo (omega (arith, p .rows .end 0))
 
 pub one-reply : {s : Sheet} {t moves room : List ℕ} {r r₂ : PlayedOut} {t′ t₂ room′ room₂ : List ℕ}
     → PlaysMoves s t moves room r t′ room′ → PlaysMoves s t moves room r₂ t₂ room₂ → OneReply r r₂ t′ t₂ room′ room₂

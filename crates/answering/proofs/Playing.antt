@@ -15,7 +15,8 @@ use Rattle.rules.specs.Tree.{Waits, Sheet, stone}
 use Rattle.rules.specs.Joining.{joined}
 use Rattle.rules.specs.Plain.{WellRead}
 use Rattle.rules.specs.Reading.{Result, refused, got}
-use Rattle.rules.specs.Answering.{Game, Choice, taken, start, mine, isOver, isEmpty, isTaken, next, answered}
+use Rattle.rules.specs.Choice.{Choice, taken}
+use Rattle.rules.specs.Answering.{Game, start, mine, isOver, isEmpty, isTaken, next, answered}
 use Rattle.rules.specs.Entries.{rounds, roomAfter}
 use Rattle.rules.specs.Promise.{Ruled, no-move, HasAnswer}
 use Rattle.rules.specs.declared.Board.{Board}
@@ -24,7 +25,6 @@ use Rattle.rules.specs.declared.Verdict.{Verdict}
 use Rattle.rules.proofs.Tests.{fst}
 use Rattle.rules.proofs.Lists.{among-append}
 use Rattle.rules.proofs.Joining.{joined-same}
-use Rattle.rules.proofs.WellRead.{well-read}
 use Rattle.rules.proofs.Given.{accepted-exactly}
 use Rattle.rules.proofs.Cover.{demand-3}
 use Rattle.cells.specs.Cells.{held, Fits}
@@ -49,7 +49,7 @@ module _ {t : List ℕ} {b : Board} {p : Player} {s : Sheet} (h : Playable t b p
   sheet-read : WellRead s
   sheet-read =
       let a = h .is-accepted in
-      well-read (a .1) s (accepted-exactly (a .0) (a .1) s .0 (a .2) .reads)
+      accepted-exactly (a .0) (a .1) s .0 (a .2) .reads .well
 
   pub board-fits : Fits b
   board-fits =
@@ -65,14 +65,14 @@ module _ {t : List ℕ} {b : Board} {p : Player} {s : Sheet} (h : Playable t b p
   root-ended = record { cell = _; under = _; at = at-ended (h .root) }
 
   -- the root's waits are open at the start
-  pub started-open : {v : List ℕ} → Started t (nodesOfWaits (s .root .waits)) v → Remarked t v × Opens b v (s .root .waits)
+  pub started-open : {v : List ℕ} → Started t (nodesOfWaits (s .root .waits)) v → Remarked t v × Opens (s .root .line) b v (s .root .waits)
   started-open {v} st =
       let ws = s .root .waits in
       let z = st .table in
       let rows : SameRows t v = rw (st .opened) (same-twice (st .cleared .rows) (marked-rows (nodesOfWaits ws) 1 z)) in
       let room = root-room root-ended in
       let n : endIn t 0 ≡ 1 + size (nodesOfWaits ws) = h .root .here .end in
-      let marks = marked-open ws (each-same (st .cleared .rows) (h .root .below)) (lined-root s sheet-read)
+      let marks = marked-open (s .root .line) ws (each-same (st .cleared .rows) (h .root .below)) (lined-root s sheet-read)
       (clear-within 1 (1 + size (nodesOfWaits ws)) (omega arith) (omega arith) (st .cleared .clear)) in (
         record { rows = rows; later = λ i q. rw (st .opened) (marked-after (nodesOfWaits ws) 1 z i (omega arith) ∙ st .cleared .later i q) },
         record {
@@ -88,7 +88,7 @@ pub record Playing (b : Board) (s : Sheet) (moves room₀ t room ours theirs : L
   pub game : Game
   pub so-far : List ℕ
   pub ruled : Ruled s (start s) so-far game
-  pub are-open : Opens b t (game .open-waits)
+  pub are-open : Opens (s .root .line) b t (game .open-waits)
   pub ours-are : (x : ℕ) → held b ours x ≡ among (mine s game) x
   pub theirs-are : (x : ℕ) → held b theirs x ≡ among (game .theirs) x
   pub many : length (game .answers) ≡ i
@@ -102,7 +102,7 @@ no-answers : (room : List ℕ) → room ≡ roomAfter [] room
 unfolding roomAfter
 no-answers room = refl
 
-pub playing-starts : {b : Board} {s : Sheet} {t room ours theirs : List ℕ} (moves : List ℕ) → Opens b t (s .root .waits)
+pub playing-starts : {b : Board} {s : Sheet} {t room ours theirs : List ℕ} (moves : List ℕ) → Opens (s .root .line) b t (s .root .waits)
     → ((x : ℕ) → held b ours x ≡ among (stone (s .root .cell)) x) → ((x : ℕ) → held b theirs x ≡ false) → Playing b s moves room t room ours theirs 0
 unfolding start mine among
 playing-starts {b} {s} {t} {room} {ours} moves o f g =
@@ -169,7 +169,7 @@ module _ {t₀ : List ℕ} {b : Board} {p : Player} {s : Sheet} (h : Playable t�
   next-move : i < length moves → drop i moves ≡ getD moves i 0 ∷ drop (i + 1) moves
   next-move q = rw add-one (drop-cons moves i 0 q)
 
-  opens-now : reached s (start s) moves ≡ l .game → Opens (s .board) t (reached s (start s) moves .open-waits)
+  opens-now : reached s (start s) moves ≡ l .game → Opens (s .root .line) (s .board) t (reached s (start s) moves .open-waits)
   opens-now z = rw (z, h .on) (l .are-open)
 
   -- the move is refused
@@ -206,27 +206,27 @@ module _ {t₀ : List ℕ} {b : Board} {p : Player} {s : Sheet} (h : Playable t�
     has-answer : HasAnswer s (l .game) x
     has-answer =
         let a = h .is-accepted in
-        demand-3 (a .0) (a .1) s (a .2) (l .so-far) (l .game) (l .ruled) .1 (fine-over s (l .game) x fine-here) x (fine-empty s (l .game) x fine-here)
+        demand-3 (a .0) (a .1) s (a .2) .has-answer (l .so-far) (l .game) (l .ruled) (fine-over s (l .game) x fine-here) x (fine-empty s (l .game) x fine-here)
 
     -- there is a wait left for it, so that the answers are fewer than the nodes
     pub playing-few : i < mostNodes
     playing-few =
         let a = h .is-accepted in
-        let covered = demand-3 (a .0) (a .1) s (a .2) (l .so-far) (l .game) (l .ruled) .0 in
-        omega (arith, covered .not-yet (fine-over s (l .game) x fine-here), l .so-many, sheet-read h .few-nodes)
+        let fewer = demand-3 (a .0) (a .1) s (a .2) .not-yet (l .so-far) (l .game) (l .ruled) (fine-over s (l .game) x fine-here) in
+        omega (arith, fewer, l .so-many, sheet-read h .few-nodes)
 
     pub playing-cell : T (isCell b x)
     playing-cell = subst (λ (z : Board). T (isCell z x)) (h .on) (empty-cell s (l .game) x (fine-empty s (l .game) x fine-here))
 
-    asked-here : Asked b t x (l .game .open-waits) (has-answer .choice)
+    asked-here : Asked (s .root .line) b t x (l .game .open-waits) (has-answer .choice)
     asked-here = record { are-open = l .are-open; is-answer = has-answer .is-answer }
 
     pub playing-asked : SomeAsked t x
-    playing-asked = (b, l .game .open-waits, has-answer .choice, asked-here)
+    playing-asked = (s .root .line, b, l .game .open-waits, has-answer .choice, asked-here)
 
-    module _ {r : ℕ} {t′ : List ℕ} (found : (on : Board) (ws : Waits) (k : Choice ws) → Asked on t x ws k → Answered on t ws k r t′) where
-      answer-here : Answered b t (l .game .open-waits) (has-answer .choice) r t′
-      answer-here = found b (l .game .open-waits) (has-answer .choice) asked-here
+    module _ {r : ℕ} {t′ : List ℕ} (found : (first : ℕ) (on : Board) (ws : Waits) (k : Choice ws) → Asked first on t x ws k → Answered first on t ws k r t′) where
+      answer-here : Answered (s .root .line) b t (l .game .open-waits) (has-answer .choice) r t′
+      answer-here = found (s .root .line) b (l .game .open-waits) (has-answer .choice) asked-here
 
       pub playing-rows : Remarked t t′
       playing-rows = answer-here .rows

@@ -12,7 +12,8 @@ use Rattle.rules.specs.Board.{isCell}
 use Rattle.rules.specs.Tree.{Sheet}
 use Rattle.rules.specs.Joining.{joined}
 use Rattle.rules.specs.Reading.{Result, refused, got}
-use Rattle.rules.specs.Answering.{Game, Choice, taken, answer, mine, isOver, isTaken, isEmpty, next, answeredBy, answered}
+use Rattle.rules.specs.Choice.{Choice, taken}
+use Rattle.rules.specs.Answering.{Game, answer, mine, isOver, isTaken, isEmpty, next, answeredBy, answered}
 use Rattle.rules.specs.Entries.{refuseIf, _>>=_, step, stopped, played, rounds}
 use Rattle.rules.specs.Promise.{Ruled, no-move, one-move}
 use Rattle.rules.specs.declared.Board.{Board}

@@ -4,12 +4,11 @@ use Prim.Native.Nat.{ℕ, _+_, _-_, _*_, _<_, _≤_}
 use native.Mathlib.Omega.{arith}
 use mathlib.Core.Bool.{true, false}
 use mathlib.Core.Option.{some}
-use mathlib.Core.Logic.{inl, inr}
 use mathlib.Core.List.{List}
 use lib.ListN.{length}
 use Rattle.rules.specs.Tree.{Waits, noWaits, wait, Moves, noMoves, move}
 use Rattle.rules.specs.Fair.{inMove}
-use Rattle.rules.specs.Answering.{PlaceIn, firstMove}
+use Rattle.rules.specs.Choice.{the-first, one-later, PlaceIn, firstMove}
 use Rattle.rules.specs.declared.Board.{Board}
 use Rattle.nodes.specs.Nodes.{aMove, nodesOfWaits, nodesOfMoves}
 use Rattle.nodes.specs.Table.{countIn, endIn, Each, At}
@@ -23,102 +22,102 @@ use Rattle.answering.proofs.Marks.{First, open-skip, open-first, open-e
 use Rattle.answering.proofs.Choosing.{Mapped, mapped, touched-here, touched-later, touched-none}
 
 -- the first of the waits ws that holds x is the first of those left, from node i on
-pub record WaitsLeft (b : Board) (t : List ℕ) (x i : ℕ) (ws : Waits) : Type 0 where
+pub record WaitsLeft (n₁ : ℕ) (b : Board) (t : List ℕ) (x i : ℕ) (ws : Waits) : Type 0 where
   pub rest : Waits
-  pub marks : Open b t (endIn t 0) i rest
-  pub same : touchedIn x ws ≡ touchedIn x rest
+  pub marks : Open n₁ b t (endIn t 0) i rest
+  pub same : touchedIn n₁ x ws ≡ touchedIn n₁ x rest
 
 -- the loop's invariant
 pub record Looking (t : List ℕ) (x end i : ℕ) : Type 0 where
   pub end-is : end ≡ endIn t 0
-  pub left : (b : Board) (ws : Waits) → Opens b t ws → WaitsLeft b t x i ws
+  pub left : (n₁ : ℕ) (b : Board) (ws : Waits) → Opens n₁ b t ws → WaitsLeft n₁ b t x i ws
 
 pub looking-starts : {t : List ℕ} {x end : ℕ} → end ≡ endIn t 0 → Looking t x end 1
-looking-starts e = record { end-is = e; left = λ b ws o. record { rest = ws; marks = o .marks; same = refl } }
+looking-starts e = record { end-is = e; left = λ n₁ b ws o. record { rest = ws; marks = o .marks; same = refl } }
 
 module _ {t : List ℕ} {x end i : ℕ} (l : Looking t x end i) where
-  first-left : i < end → countIn t i ≡ 1 → (b : Board) (ws : Waits) (o : Opens b t ws) → First b t (endIn t 0) i (l .left b ws o .rest)
-  first-left p m b ws o = open-first (omega (arith, l .end-is)) (λ z. omega arith) (l .left b ws o .marks)
+  first-left : i < end → countIn t i ≡ 1 → (n₁ : ℕ) (b : Board) (ws : Waits) (o : Opens n₁ b t ws) → First n₁ b t (endIn t 0) i (l .left n₁ b ws o .rest)
+  first-left p m n₁ b ws o = open-first _ (omega (arith, l .end-is)) (λ z. omega arith) (l .left n₁ b ws o .marks)
 
   -- within the table
   pub looking-room : i < end → SomeOpen t → 4 * i + 3 < length t
   looking-room p s = omega (arith, l .end-is, s .are-open .within)
 
   pub looking-wait : i < end → countIn t i ≡ 1 → SomeOpen t → (4 * i + 3 < length t) × (4 * endIn t i ≤ length t)
-  looking-wait p m s = named-room (first-left p m (s .board) (s .waits) (s .are-open) .here .at)
+  looking-wait p m s = named-room (first-left p m (s .first) (s .board) (s .waits) (s .are-open) .here .at)
 
   -- no open wait is at node i
   pub looking-skip : i < end → (countIn t i ≡ 1 → ⊥) → Looking t x end (i + 1)
   looking-skip p m =
       record {
         end-is = l .end-is;
-        left = λ b ws o.
-            let d = l .left b ws o in
-            record { rest = d .rest; marks = open-skip (omega (arith, l .end-is)) m (d .marks); same = d .same };
+        left = λ n₁ b ws o.
+            let d = l .left n₁ b ws o in
+            record { rest = d .rest; marks = open-skip _ (omega (arith, l .end-is)) m (d .marks); same = d .same };
       }
 
   -- the open wait at node i holds x
-  pub looking-found : i < end → countIn t i ≡ 1 → 1 ≤ x → true ≡ namedAt t i x → (b : Board) (ws : Waits) → Opens b t ws → found.At i ≡ touchedIn x ws
-  looking-found p m q f b ws o =
-      let d = first-left p m b ws o in
-      let e : i ≡ d .line - 2 = omega (arith, d .here .line-is) in
+  pub looking-found : i < end → countIn t i ≡ 1 → 1 ≤ x → true ≡ namedAt t i x → (n₁ : ℕ) (b : Board) (ws : Waits) → Opens n₁ b t ws → found.At i ≡ touchedIn n₁ x ws
+  looking-found p m q f n₁ b ws o =
+      let d = first-left p m n₁ b ws o in
+      let e : i ≡ d .line - n₁ = omega (arith, d .here .line-is) in
       sym
-      (l .left b ws o .same
-      ∙ ap (touchedIn x) (d .are)
-      ∙ touched-here x (d .line) (d .moves) (d .others) (sym (f ∙ wait-named x q (d .moves) (d .here .at)))
+      (l .left n₁ b ws o .same
+      ∙ ap (touchedIn n₁ x) (d .are)
+      ∙ touched-here n₁ x (d .line) (d .moves) (d .others) (sym (f ∙ wait-named x q (d .moves) (d .here .at)))
       ∙ ap found.At (sym e))
 
   -- it does not
   pub looking-on : i < end → countIn t i ≡ 1 → SomeOpen t → i < endIn t i
-  looking-on p m s = omega (arith, first-left p m (s .board) (s .waits) (s .are-open) .here .at .here .end)
+  looking-on p m s = omega (arith, first-left p m (s .first) (s .board) (s .waits) (s .are-open) .here .at .here .end)
 
   pub looking-again : i < end → countIn t i ≡ 1 → 1 ≤ x → false ≡ namedAt t i x → Looking t x end (endIn t i)
   looking-again p m q f =
       record {
         end-is = l .end-is;
-        left = λ b ws o.
-            let d = first-left p m b ws o in
+        left = λ n₁ b ws o.
+            let d = first-left p m n₁ b ws o in
             record {
               rest = d .others;
               marks = rw (d .here .at .here .end) (d .rest);
               same =
-                  l .left b ws o .same
-                  ∙ ap (touchedIn x) (d .are)
-                  ∙ touched-later x (d .line) (d .moves) (d .others) (sym (f ∙ wait-named x q (d .moves) (d .here .at)));
+                  l .left n₁ b ws o .same
+                  ∙ ap (touchedIn n₁ x) (d .are)
+                  ∙ touched-later n₁ x (d .line) (d .moves) (d .others) (sym (f ∙ wait-named x q (d .moves) (d .here .at)));
             };
       }
 
   -- no node is left
-  pub looking-done : end ≤ i → (b : Board) (ws : Waits) → Opens b t ws → found.Nothing ≡ touchedIn x ws
-  looking-done p b ws o =
-      let d = l .left b ws o in
-      sym (d .same ∙ ap (touchedIn x) (none-left (d .marks) (omega (arith, l .end-is))) ∙ touched-none x)
+  pub looking-done : end ≤ i → (n₁ : ℕ) (b : Board) (ws : Waits) → Opens n₁ b t ws → found.Nothing ≡ touchedIn n₁ x ws
+  looking-done p n₁ b ws o =
+      let d = l .left n₁ b ws o in
+      sym (d .same ∙ ap (touchedIn n₁ x) (none-left (d .marks) (omega (arith, l .end-is))) ∙ touched-none n₁ x)
     where
-      none-left : {b : Board} {t : List ℕ} {n i : ℕ} {ws : Waits} → Open b t n i ws → n ≤ i → ws ≡ noWaits
+      none-left : {n₁ : ℕ} {b : Board} {t : List ℕ} {n i : ℕ} {ws : Waits} → Open n₁ b t n i ws → n ≤ i → ws ≡ noWaits
       none-left (none-open q c) h = refl
-      none-left (open-at j q c o r) h = absurd (omega (arith, open-end r))
+      none-left (open-at j q c o r) h = absurd (omega (arith, open-end _ r))
 
 -- the search for the first open wait
 pub record Nearing (t : List ℕ) (i : ℕ) : Type 0 where
-  pub marks : (b : Board) (line : ℕ) (ms : Moves) (ws : Waits) → Opens b t (wait line ms ws) → Open b t (endIn t 0) i (wait line ms ws)
+  pub marks : (n₁ : ℕ) (b : Board) (line : ℕ) (ms : Moves) (ws : Waits) → Opens n₁ b t (wait line ms ws) → Open n₁ b t (endIn t 0) i (wait line ms ws)
 
 pub nearing-starts : (t : List ℕ) → Nearing t 1
-nearing-starts t = record { marks = λ b line ms ws o. o .marks }
+nearing-starts t = record { marks = λ n₁ b line ms ws o. o .marks }
 
 module _ {t : List ℕ} {i : ℕ} (l : Nearing t i) where
   pub nearing-end : SomeWaiting t → i < endIn t 0
-  nearing-end s = open-some (l .marks _ _ _ _ (s .4))
+  nearing-end s = open-some _ (l .marks _ _ _ _ _ (s .5))
 
   pub nearing-room : SomeWaiting t → 4 * i + 3 < length t
-  nearing-room s = omega (arith, nearing-end s, s .4 .within)
+  nearing-room s = omega (arith, nearing-end s, s .5 .within)
 
   pub nearing-again : countIn t i ≡ 0 → Nearing t (i + 1)
-  nearing-again z = record { marks = λ b line ms ws o. let m = l .marks b line ms ws o in open-skip (open-some m) (λ e. omega arith) m }
+  nearing-again z = record { marks = λ n₁ b line ms ws o. let m = l .marks n₁ b line ms ws o in open-skip _ (open-some _ m) (λ e. omega arith) m }
 
-  pub nearing-done : (countIn t i ≡ 0 → ⊥) → (b : Board) (line : ℕ) (ms : Moves) (ws : Waits) → Opens b t (wait line ms ws) → i ≡ line - 2
-  nearing-done z b line ms ws o =
-      let m = l .marks b line ms ws o in
-      let d = open-first (open-some m) z m in
+  pub nearing-done : (countIn t i ≡ 0 → ⊥) → (n₁ : ℕ) (b : Board) (line : ℕ) (ms : Moves) (ws : Waits) → Opens n₁ b t (wait line ms ws) → i ≡ line - n₁
+  nearing-done z n₁ b line ms ws o =
+      let m = l .marks n₁ b line ms ws o in
+      let d = open-first _ (open-some _ m) z m in
       let e : d .line ≡ line = cc (d .are) in
       omega (arith, d .here .line-is)
 
@@ -143,11 +142,11 @@ module _ (x line c : ℕ) (ws : Waits) (ms : Moves) (p : PlaceIn (move line c ws
   place-here : (next : ℕ) → inMove c ws x ≡ false → nodeThere next (move line c ws ms) p ≡ next
   unfolding nodeThere
   place-here next e =
-      let q : inl tt ≡ p = cc (rw e at f) in
+      let q : the-first tt ≡ p = cc (rw e at f) in
       subst (λ (y : PlaceIn (move line c ws ms)). nodeThere next (move line c ws ms) y ≡ next) q refl
 
-  place-later : inMove c ws x ≡ true → Mapped inr (firstMove (without x) ms) p
-  place-later e = mapped inr (firstMove (without x) ms) p (rw e at f)
+  place-later : inMove c ws x ≡ true → Mapped one-later (firstMove (without x) ms) p
+  place-later e = mapped one-later (firstMove (without x) ms) p (rw e at f)
 
 move-step : {b : Board} {t : List ℕ} {x next place : ℕ} → MovesLeft b t x next place → MoveStep b t x next place
 unfolding nodeThere

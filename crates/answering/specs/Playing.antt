@@ -69,5 +69,5 @@ asPlayed (Played n over) = record { verdict = Done; place = 0; answers = n; over
 pub record PlaysMoves (s : Sheet) (t moves room : List ℕ) (r : PlayedOut) (t′ room′ : List ℕ) : Type 0 where
   pub reply : r ≡ shown s (rounds s (start s) 1 moves)
   pub rows : Remarked t t′
-  pub open-waits : Opens (s .board) t′ (reached s (start s) moves .open-waits)
+  pub open-waits : Opens (s .root .line) (s .board) t′ (reached s (start s) moves .open-waits)
   pub answers : room′ ≡ roomAfter (reached s (start s) moves .answers) room

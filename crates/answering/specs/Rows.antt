@@ -51,15 +51,15 @@ unfoldable pub marked : Nodes → ℕ → List ℕ → List ℕ
 marked noNodes i t = t
 marked (node c u a) i t = marked a (i + 1 + size u) (withMark t i 1)
 
--- the line of each node is two past its number
+-- the line of each node is so much past its number as that of the first node, f
 unfoldable mutual
-  pub LinedWaits : ℕ → Waits → Type 0
-  LinedWaits i noWaits = Unit {0}
-  LinedWaits i (wait line ms ws) = (line ≡ i + 2) × LinedMoves (i + 1) ms × LinedWaits (i + 1 + size (nodesOfMoves ms)) ws
+  pub LinedWaits : (first : ℕ) → ℕ → Waits → Type 0
+  LinedWaits f i noWaits = Unit {0}
+  LinedWaits f i (wait line ms ws) = (line ≡ i + f) × LinedMoves f (i + 1) ms × LinedWaits f (i + 1 + size (nodesOfMoves ms)) ws
 
-  pub LinedMoves : ℕ → Moves → Type 0
-  LinedMoves i noMoves = Unit {0}
-  LinedMoves i (move line c ws ms) = (line ≡ i + 2) × LinedWaits (i + 1) ws × LinedMoves (i + 1 + size (nodesOfWaits ws)) ms
+  pub LinedMoves : (first : ℕ) → ℕ → Moves → Type 0
+  LinedMoves f i noMoves = Unit {0}
+  LinedMoves f i (move line c ws ms) = (line ≡ i + f) × LinedWaits f (i + 1) ws × LinedMoves f (i + 1 + size (nodesOfWaits ws)) ms
 
 -- the waits u under the root are marked, and no other nodes of the table
 pub record Started (t : List ℕ) (u : Nodes) (v : List ℕ) : Type 0 where

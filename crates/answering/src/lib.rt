@@ -111,7 +111,7 @@ fn names(t: &[u32], i: usize, cell: usize) -> bool
 // The open wait that holds the cell, if one does.
 fn touched(t: &[u32], cell: usize) -> Found
     requires { ⌜ (1 ≤ cell) × SomeOpen (now t) ⌝ }
-    ensures { λ r. ⌜ ((b : declared.Board) (ws : Waits) → Opens b (now (t .entry)) ws → r ≡ touchedIn cell ws) ⌝ }
+    ensures { λ r. ⌜ ((f : ℕ) (b : declared.Board) (ws : Waits) → Opens f b (now (t .entry)) ws → r ≡ touchedIn f cell ws) ⌝ }
 {
     let end = end_at(t, 0);
     let mut i = 1;
@@ -131,7 +131,7 @@ fn touched(t: &[u32], cell: usize) -> Found
 // The first open wait.
 fn first_open(t: &[u32]) -> usize
     requires { ⌜ SomeWaiting (now t) ⌝ }
-    ensures { λ r. ⌜ ((b : declared.Board) (line : ℕ) (ms : Moves) (ws : Waits) → Opens b (now (t .entry)) (wait line ms ws) → r ≡ line - 2) ⌝ }
+    ensures { λ r. ⌜ ((f : ℕ) (b : declared.Board) (line : ℕ) (ms : Moves) (ws : Waits) → Opens f b (now (t .entry)) (wait line ms ws) → r ≡ line - f) ⌝ }
 {
     let mut wait = 1;
     while count_at(t, wait) == 0 {
@@ -155,7 +155,7 @@ fn first_without(t: &[u32], i: usize, cell: usize) -> usize
 // The nodes of the answer to a stone on the cell.
 fn answer_at(t: &[u32], cell: usize) -> Answer
     requires { ⌜ (1 ≤ cell) × SomeAsked (now t) cell ⌝ }
-    ensures { λ r. ⌜ ((b : declared.Board) (ws : Waits) (k : Choice ws) → Asked b (now (t .entry)) cell ws k → Chosen ws k (r .wait) (r .node)) ⌝ }
+    ensures { λ r. ⌜ ((f : ℕ) (b : declared.Board) (ws : Waits) (k : Choice ws) → Asked f b (now (t .entry)) cell ws k → Chosen f ws k (r .wait) (r .node)) ⌝ }
 {
     let found = touched(t, cell);
     let Found::At(wait) = found else {
@@ -173,7 +173,7 @@ fn answer_at(t: &[u32], cell: usize) -> Answer
 // Answers a stone on the cell: the wait closes, and the waits under the answered move open.
 fn answer_to(t: &mut [u32], cell: usize) -> usize
     requires { ⌜ (1 ≤ cell) × SomeAsked (now t) cell ⌝ }
-    ensures { λ r. ⌜ ((b : declared.Board) (ws : Waits) (k : Choice ws) → Asked b (now (t .entry)) cell ws k → Answered b (now (t .entry)) ws k r (now (t .exit))) ⌝ }
+    ensures { λ r. ⌜ ((f : ℕ) (b : declared.Board) (ws : Waits) (k : Choice ws) → Asked f b (now (t .entry)) cell ws k → Answered f b (now (t .entry)) ws k r (now (t .exit))) ⌝ }
 {
     let a = answer_at(t, cell);
     let wait = a.wait;

@@ -13,10 +13,10 @@ use lib.Seq.{getD-set-same, getD-set-other}
 use Rattle.rules.specs.Board.{isCell, columnOf, rowOf, cellAt}
 use Rattle.rules.specs.declared.Board.{Board}
 use Rattle.rules.proofs.Tests.{same-test, false-of, both, fst, snd, left, right, cases}
+use Rattle.rules.proofs.Places.{cell-place, at-place}
 use Rattle.cells.specs.Cells.{digit, held, Fits}
 use Rattle.cells.specs.Rows.{In, mergedRows, PlaceOf}
 use Rattle.cells.proofs.Digits.{one-shl, or-l, or-r, or-one, pow-self, pow-only}
-use Rattle.cells.proofs.Places.{cell-place, at-place}
 use Rattle.cells.proofs.Words.{in-empty, either-in, either-out, both-in, both-out}
 
 module _ (b : Board) (s : List ℕ) (x : ℕ) where
@@ -85,7 +85,7 @@ module _ (b : Board) (s : List ℕ) (x : ℕ) (long : length s ≡ 21) (fits : F
 
   row-there : rowOf b x < length s
   row-there =
-      let o = cell-place b x fits cell in
+      let o = cell-place b x (fits .some-column) cell in
       omega (arith, o .bottom, fits .few-rows)
 
   -- a place of the new set is that of x, or one of the old set

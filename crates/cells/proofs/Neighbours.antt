@@ -8,13 +8,12 @@ use native.Mathlib.Numerals.{add-one, sub-one}
 use native.Mathlib.Omega.{arith}
 use lib.Dec.{T, eqb, eqb→eq, eqb-refl}
 use Rattle.rules.specs.Words.{if_then_else_, among}
-use Rattle.rules.specs.Board.{onBoard, cellAt, columnOf, rowOf, there, around, neighbours}
+use Rattle.rules.specs.Board.{On, onBoard, cellAt, columnOf, rowOf, there, around, neighbours}
 use Rattle.rules.specs.declared.Board.{Board}
 use Rattle.rules.proofs.Tests.{true-of, left, cases}
 use Rattle.rules.proofs.Lists.{in-append, append-left, append-right}
-use Rattle.cells.specs.Rows.{On}
+use Rattle.rules.proofs.Places.{on-test, test-on, column-at, row-at}
 use Rattle.cells.specs.Growing.{Near, to-left, to-right, to-up, to-down, to-up-right, to-down-left}
-use Rattle.cells.proofs.Places.{on-test, test-on, column-at, row-at}
 
 there-in : (b : Board) (c r : ℕ) → On b c r → T (among (there b c r) (cellAt b c r))
 unfolding there among

@@ -14,12 +14,12 @@ use Rattle.rules.specs.declared.Player.{Player}
 use Rattle.rules.proofs.Tests.{same-test, holds-of}
 use Rattle.rules.proofs.Smallest.{smallest-none}
 use Rattle.rules.proofs.Joining.{joined→joins, joins→joined}
+use Rattle.rules.proofs.Places.{cell-place, at-place, column-at, row-at, cell-at}
 use Rattle.cells.specs.Cells.{held, Fits}
 use Rattle.cells.specs.Rows.{In, mergedRows, Clipped, Side}
 use Rattle.cells.specs.Growing.{Linked, own, next, Framed, Closure}
 use Rattle.cells.proofs.Held.{held-cell, held-in, in-held}
 use Rattle.cells.proofs.Neighbours.{neighbour-near, near-neighbour}
-use Rattle.cells.proofs.Places.{cell-place, at-place, column-at, row-at, cell-at}
 use Rattle.cells.proofs.Smallest.{smallest-held}
 use Rattle.cells.proofs.Words.{both-in, both-out}
 
@@ -54,7 +54,7 @@ module _ (b : Board) (p : Player) (fits : Fits b) (s cells first last all : List
   reach-in c r (next l n i) = i
 
   cell-in : (x : ℕ) → T (held b s x) → In cells (columnOf b x) (rowOf b x)
-  cell-in x h = cl .inside (columnOf b x) (rowOf b x) (held-in b s x h) (cell-place b x fits (held-cell b s x h))
+  cell-in x h = cl .inside (columnOf b x) (rowOf b x) (held-in b s x h) (cell-place b x (fits .some-column) (held-cell b s x h))
 
   in-cell : (c r : ℕ) → In cells c r → T (held b s (cellAt b c r))
   in-cell c r e =

@@ -9,9 +9,9 @@ use Rattle.rules.specs.Board.{isCell, columnOf, rowOf, onFirstSide, onLastSide}
 use Rattle.rules.specs.declared.Board.{Board}
 use Rattle.rules.specs.declared.Player.{Player}
 use Rattle.rules.specs.declared.Player.the-variants.{D, A}
+use Rattle.rules.proofs.Places.{cell-place}
 use Rattle.cells.specs.Cells.{Fits}
 use Rattle.cells.specs.Rows.{In, Block, Side}
-use Rattle.cells.proofs.Places.{cell-place}
 
 equal : (m n : ℕ) → n ≤ m → m ≤ n → T (eqb m n)
 equal m n h l =
@@ -25,7 +25,7 @@ module _ (b : Board) (fits : Fits b) (n : ℕ) (s : List ℕ) where
     where
       inside· : (x : ℕ) → T (isCell b x) → T (test x) → In s (columnOf b x) (rowOf b x)
       inside· x i h =
-          let o = cell-place b x fits i in
+          let o = cell-place b x (fits .some-column) i in
           let e : rowOf b x ≡ n = eqb→eq (rowOf b x) n (subst T (is x) h) in
           k .inside (columnOf b x) (rowOf b x) (o .left) (o .right) (omega arith) (omega arith)
 
@@ -40,7 +40,7 @@ module _ (b : Board) (fits : Fits b) (n : ℕ) (s : List ℕ) where
     where
       inside· : (x : ℕ) → T (isCell b x) → T (test x) → In s (columnOf b x) (rowOf b x)
       inside· x i h =
-          let o = cell-place b x fits i in
+          let o = cell-place b x (fits .some-column) i in
           let e : columnOf b x ≡ n = eqb→eq (columnOf b x) n (subst T (is x) h) in
           k .inside (columnOf b x) (rowOf b x) (omega arith) (omega arith) (o .top) (o .bottom)
 

@@ -10,15 +10,15 @@ use lib.Count.{trailingZeros, under}
 use lib.Dec.{T}
 use lib.ListN.{getD}
 use Rattle.rules.specs.Words.{if_then_else_, keep, upTo, firstOrNone}
-use Rattle.rules.specs.Board.{isCell, cells, cellAt, columnOf, rowOf, listed, smallest}
+use Rattle.rules.specs.Board.{On, isCell, cells, cellAt, columnOf, rowOf, listed, smallest}
 use Rattle.rules.specs.declared.Board.{Board}
 use Rattle.rules.proofs.Tests.{true-of, false-of, left}
 use Rattle.rules.proofs.Smallest.{smallest-some, smallest-zero, smallest-is}
+use Rattle.rules.proofs.Places.{range-cell, cell-place, at-place, column-at, row-at, cell-at}
 use Rattle.cells.specs.Cells.{digit, held, Fits}
-use Rattle.cells.specs.Rows.{In, On, Clipped}
+use Rattle.cells.specs.Rows.{In, Clipped}
 use Rattle.cells.proofs.Digits.{digit-half, digit-zero}
 use Rattle.cells.proofs.Held.{held-cell, held-in, in-held}
-use Rattle.cells.proofs.Places.{range-cell, cell-place, at-place, column-at, row-at, cell-at}
 
 -- ---- the first of what is kept
 
@@ -103,14 +103,14 @@ trailing-low (suc k) n (suc j) e = go (n % 2) (trailing-low k (n / 2) j (digit-h
 module _ (b : Board) (s t : List ℕ) (fits : Fits b) (cl : Clipped b s t) where
   -- every held cell has its digit in the clipped words
   clipped-in : (y : ℕ) → T (held b s y) → In t (columnOf b y) (rowOf b y)
-  clipped-in y h = cl .inside (columnOf b y) (rowOf b y) (held-in b s y h) (cell-place b y fits (held-cell b s y h))
+  clipped-in y h = cl .inside (columnOf b y) (rowOf b y) (held-in b s y h) (cell-place b y (fits .some-column) (held-cell b s y h))
 
   -- no row has a cell
   pub rows-empty : ((k : ℕ) → 1 ≤ k → k ≤ b .rows → getD t k 0 ≡ 0) → smallest b (held b s) ≡ 0
   rows-empty z =
       smallest-zero b (held b s)
       (λ y i h.
-      let o = cell-place b y fits i in
+      let o = cell-place b y (fits .some-column) i in
       digit-zero (columnOf b y) (rw (z (rowOf b y) (o .top) (o .bottom)) at (clipped-in y h)))
 
   module _ (i : ℕ) (z : (k : ℕ) → 1 ≤ k → k < i → getD t k 0 ≡ 0) (small : getD t i 0 < 2 ^ 32) (some : getD t i 0 ≡ 0 → ⊥) where
@@ -132,7 +132,7 @@ module _ (b : Board) (s t : List ℕ) (fits : Fits b) (cl : Clipped b s t) where
     none-lower y l h = go (decLt (rowOf b y) i) (ℕ-discrete (rowOf b y) i)
       where
         o : On b (columnOf b y) (rowOf b y)
-        o = cell-place b y fits (held-cell b s y h)
+        o = cell-place b y (fits .some-column) (held-cell b s y h)
 
         here : In t (columnOf b y) (rowOf b y)
         here = clipped-in y h

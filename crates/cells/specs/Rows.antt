@@ -6,7 +6,7 @@ use Prim.Native.Nat.{ℕ, zero, suc, _≤_}
 use lib.Bits.{bitAnd, bitOr}
 use lib.ListN.{getD}
 use lib.Dec.{T}
-use Rattle.rules.specs.Board.{isCell, columnOf, rowOf}
+use Rattle.rules.specs.Board.{On, isCell, columnOf, rowOf}
 use Rattle.rules.specs.declared.Board.{Board}
 use Rattle.cells.specs.Cells.{digit}
 
@@ -39,13 +39,6 @@ pub record PlaceOf (b : Board) (x c r : ℕ) : Type 0 where
 pub record Block (left right top bottom : ℕ) (s : List ℕ) : Type 0 where
   pub inside : (c r : ℕ) → left ≤ c → c ≤ right → top ≤ r → r ≤ bottom → In s c r
   pub only : (c r : ℕ) → In s c r → (left ≤ c) × (c ≤ right) × (top ≤ r) × (r ≤ bottom)
-
--- column c, row r is on the board
-pub record On (b : Board) (c r : ℕ) : Type 0 where
-  pub left : 1 ≤ c
-  pub right : c ≤ b .columns
-  pub top : 1 ≤ r
-  pub bottom : r ≤ b .rows
 
 -- t has the digits of s that stand on the board
 pub record Clipped (b : Board) (s t : List ℕ) : Type 0 where

@@ -9,12 +9,14 @@ use native.Mathlib.Omega.{arith}
 use mathlib.Core.List.{List, [], _∷_}
 use lib.Dec.{leb, leb→le}
 use lib.ListN.{length}
+use Rattle.rules.specs.Sizes.{mostNodes}
 use Rattle.rules.specs.declared.Board.{Board}
 use Rattle.rules.specs.Board.{isCell, cells, smallest}
 use Rattle.rules.specs.Tree.{Wait, Move, Sheet, everyMove, everyWait}
 use Rattle.rules.specs.Fair.{Fault, notApart, notElusive, faultAt, firstFault, firstNotApart, firstNotElusive}
 use Rattle.rules.proofs.Tests.{snd}
 use Rattle.rules.proofs.Smallest.{smallest-zero}
+use Rattle.rules.proofs.Places.{cell-range}
 use Rattle.cells.specs.Cells.{held, Fits}
 use Rattle.cells.proofs.Smallest.{smallest-same, smallest-held}
 use Rattle.nodes.specs.Table.{endIn}
@@ -22,10 +24,10 @@ use Rattle.nodes.specs.Order.{TreeNode, isMove, isWait, movesAmong, waitsAmong}
 use Rattle.nodes.specs.Sheets.{HoldsSheet, SomeSheet}
 use Rattle.nodes.proofs.Order.{waits-length, moves-of-waits, waits-of-waits}
 use Rattle.nodes.proofs.Sheets.{sheet-end}
-use Rattle.fair.specs.Faults.{firstBy, faultyBy, lineOf, lineAt, NodeAt, SomeTreeNode, FoundAt}
+use Rattle.fair.specs.Faults.{firstBy, faultyBy, lineOf, NodeAt, SomeTreeNode, FoundAt, FaultFound}
+use Rattle.fair.specs.declared.Fault.the-variants.{At, Nothing}
 use Rattle.fair.specs.declared.Test.{Test}
 use Rattle.fair.specs.declared.Test.the-variants.{Apart, Elusive}
-use Rattle.cells.proofs.Places.{cell-range}
 use Rattle.fair.proofs.Laid.{Laid, laidNode, treeOf, sheet-laid}
 
 -- the first node of a list is not faulty, or it is
@@ -68,7 +70,7 @@ tree-first Elusive s =
 -- of a held sheet, the nodes from i on are left, and its first fault is theirs
 pub record Left (test : Test) (b : Board) (t : List ℕ) (i end : ℕ) (s : Sheet) : Type 0 where
   pub rest : List TreeNode
-  pub laid : Laid b t i rest
+  pub laid : Laid b t (s .root .line) i rest
   pub to-end : i + length rest ≡ end
   pub same : firstBy test s ≡ firstFault b lineOf (faultyBy test) rest
 
@@ -89,16 +91,16 @@ search-starts test b t end e s h =
 record Next (test : Test) (b : Board) (t : List ℕ) (i end : ℕ) (s : Sheet) : Type 0 where
   node : TreeNode
   at : NodeAt b t i node
-  line-is : lineOf node ≡ lineAt i
+  line-is : lineOf node ≡ i + s .root .line
   others : List TreeNode
-  laid : Laid b t (i + 1) others
+  laid : Laid b t (s .root .line) (i + 1) others
   to-end : i + 1 + length others ≡ end
   same : firstBy test s ≡ firstFault b lineOf (faultyBy test) (node ∷ others)
 
 next-node : {test : Test} {b : Board} {t : List ℕ} {i end : ℕ} {s : Sheet} → i < end → Left test b t i end s → Next test b t i end s
 next-node {test} {b} {t} {i} {end} {s} p l = go (l .rest) (l .laid) (l .to-end) (l .same)
   where
-    go : (ns : List TreeNode) → Laid b t i ns → i + length ns ≡ end → firstBy test s ≡ firstFault b lineOf (faultyBy test) ns → Next test b t i end s
+    go : (ns : List TreeNode) → Laid b t (s .root .line) i ns → i + length ns ≡ end → firstBy test s ≡ firstFault b lineOf (faultyBy test) ns → Next test b t i end s
     go [] o e q = absurd (omega arith)
     go (n ∷ ns) (laidNode a k o) e q = record { node = n; at = a; line-is = k; others = ns; laid = o; to-end = omega arith; same = q }
 
@@ -124,19 +126,23 @@ module _ {test : Test} {b : Board} {t : List ℕ} {i end : ℕ} (w : Searching t
         }
 
     -- it is the first that is
-    pub search-found : c ≢ 0 → (s : Sheet) → HoldsSheet t b s → some (record { line = lineAt i; cell = c }) ≡ firstBy test s
-    search-found z s h =
+    pub search-found : c ≢ 0 → (s : Sheet) → HoldsSheet t b s → i < mostNodes → FaultFound s (firstBy test s) (At i c)
+    search-found z s h low =
         let n = next-node p (w s h) in
-        sym
-        (n .same
-        ∙ first-found b lineOf (faultyBy test) (n .node) (n .others) c (its-cell (n .node) (n .at)) z
-        ∙ ap (λ (l : ℕ). some (record { line = l; cell = c })) (n .line-is))
+        record {
+          seen =
+              sym
+              (n .same
+              ∙ first-found b lineOf (faultyBy test) (n .node) (n .others) c (its-cell (n .node) (n .at)) z
+              ∙ ap (λ (l : ℕ). some (record { line = l; cell = c })) (n .line-is));
+          low = low;
+        }
 
   -- none is
-  pub search-ends : end ≤ i → (s : Sheet) → HoldsSheet t b s → none ≡ firstBy test s
+  pub search-ends : end ≤ i → (s : Sheet) → HoldsSheet t b s → FaultFound s (firstBy test s) Nothing
   search-ends p s h =
       let l = w s h in
-      sym (l .same ∙ go (l .rest) (l .to-end))
+      record { seen = sym (l .same ∙ go (l .rest) (l .to-end)); low = tt }
     where
       go : (ns : List TreeNode) → i + length ns ≡ end → firstFault b lineOf (faultyBy test) ns ≡ none
       go [] e = unfold firstFault in refl

@@ -4,8 +4,9 @@ use mathlib.Core.Logic.{_≢_}
 use mathlib.Core.Bool.{Bool, false, not, _&&_, _||_}
 use mathlib.Core.List.{List}
 use mathlib.Core.Option.{Option, none, some}
-use Prim.Native.Nat.{ℕ, _+_, _≤_}
+use Prim.Native.Nat.{ℕ, _+_, _<_, _≤_}
 use lib.Dec.{eqb}
+use Rattle.rules.specs.Sizes.{mostNodes}
 use Rattle.rules.specs.declared.Board.{Board}
 use Rattle.rules.specs.Tree.{noMoves, Wait, Move, Sheet}
 use Rattle.rules.specs.Fair.{Fault, notApart, notElusive, firstNotApart, firstNotElusive}
@@ -17,10 +18,20 @@ use Rattle.fair.specs.declared.Fault as answered
 use Rattle.fair.specs.declared.Test.{Test}
 use Rattle.fair.specs.declared.Test.the-variants.{Apart, Elusive}
 
--- the fault that an answer tells
-abbrev pub faultSeen : answered.Fault → Option Fault
-faultSeen (answered.the-variants.At l c) = some (record { line = l; cell = c })
-faultSeen answered.the-variants.Nothing = none
+-- the fault that an answer tells, where the first node's line is `first`
+abbrev pub faultSeen : (first : ℕ) → answered.Fault → Option Fault
+faultSeen first (answered.the-variants.At i c) = some (record { line = i + first; cell = c })
+faultSeen first answered.the-variants.Nothing = none
+
+-- a node's number is below the most nodes
+abbrev pub FaultLow : answered.Fault → Type 0
+FaultLow (answered.the-variants.At i c) = i < mostNodes
+FaultLow answered.the-variants.Nothing = Unit {0}
+
+-- the answer tells this fault of the sheet
+pub record FaultFound (s : Sheet) (fault : Option Fault) (r : answered.Fault) : Type 0 where
+  pub seen : faultSeen (s .root .line) r ≡ fault
+  pub low : FaultLow r
 
 -- the first fault of a sheet by a test
 abbrev pub firstBy : Test → Sheet → Option Fault
@@ -34,13 +45,10 @@ faultyBy Apart (isWait w) x = false
 faultyBy Elusive (isMove m) x = false
 faultyBy Elusive (isWait w) x = notElusive w x
 
--- the line of a node of the tree, and of a node number of the table
+-- the line of a node of the tree
 abbrev pub lineOf : TreeNode → ℕ
 lineOf (isMove m) = m .line
 lineOf (isWait w) = w .line
-
-abbrev pub lineAt : ℕ → ℕ
-lineAt i = i + 2
 
 -- the first node is a move, and so is any other that has a cell
 abbrev pub isMoveAt : List ℕ → ℕ → Bool

@@ -4,13 +4,12 @@ ghost use mathlib.Core.Path.{_≡_};
 ghost use Prim.Native.Nat.{_+_, _*_, _<_, _≤_};
 ghost use lib.ListN.{length};
 ghost use Rattle.rules.specs.Fair.{firstNotApart, firstNotElusive};
-ghost use Rattle.rules.specs.Sizes.{mostNodes};
 ghost use Rattle.rules.specs.Tree.{Sheet};
 ghost use Rattle.cells.specs.Cells.{Fits};
 ghost use Rattle.nodes.specs.Nodes.{aWait, aMove};
 ghost use Rattle.nodes.specs.Table.{underIn, RowOn, SomeNode};
 ghost use Rattle.nodes.specs.Sheets.{HoldsSheet, SomeSheet};
-ghost use Rattle.fair.specs.Faults.{faultSeen, firstBy, lineAt, isMoveAt, SomeTreeNode, FoundAtMove, FoundAtWait, FoundAt, Adds};
+ghost use Rattle.fair.specs.Faults.{FaultFound, firstBy, isMoveAt, SomeTreeNode, FoundAtMove, FoundAtWait, FoundAt, Adds};
 use cells::Cells;
 use nodes::cell_at;
 use nodes::collect_move;
@@ -20,9 +19,9 @@ use nodes::under_at;
 use nodes::with_stone;
 use rules::Board;
 
-// The line of the first faulty node, and its smallest faulty cell.
+// The first faulty node, and its smallest faulty cell.
 pub enum Fault {
-    At { line: u32, cell: u32 },
+    At { node: usize, cell: u32 },
     Nothing,
 }
 
@@ -131,25 +130,17 @@ fn faulty_at(table: &[u32], board: Board, i: usize, test: Test) -> Cells
     }
 }
 
-// The line of a node.
-fn line_of(node: usize) -> u32
-    requires { ⌜ node < mostNodes ⌝ }
-    ensures { λ r. ⌜ r ≡ lineAt node ⌝ }
-{
-    (node + 2) as u32
-}
-
 // The first faulty node by the test.
 fn first_fault(table: &[u32], board: Board, test: Test) -> Fault
     requires { ⌜ SomeSheet (now table) board ⌝ }
-    ensures { λ r. ⌜ ((s : Sheet) → HoldsSheet (now (table .entry)) board s → faultSeen r ≡ firstBy test s) ⌝ }
+    ensures { λ r. ⌜ ((s : Sheet) → HoldsSheet (now (table .entry)) board s → FaultFound s (firstBy test s) r) ⌝ }
 {
     let end = end_at(table, 0);
     for i in 0..end {
         let cell = faulty_at(table, board, i, test).least(board);
         if cell != 0 {
             return Fault::At {
-                line: line_of(i),
+                node: i,
                 cell: cell as u32,
             };
         }
@@ -160,7 +151,7 @@ fn first_fault(table: &[u32], board: Board, test: Test) -> Fault
 // 10: the first move that is not apart.
 pub fn not_apart(table: &[u32], board: Board) -> Fault
     requires { ⌜ SomeSheet (now table) board ⌝ }
-    ensures { λ r. ⌜ ((s : Sheet) → HoldsSheet (now (table .entry)) board s → faultSeen r ≡ firstNotApart s) ⌝ }
+    ensures { λ r. ⌜ ((s : Sheet) → HoldsSheet (now (table .entry)) board s → FaultFound s (firstNotApart s) r) ⌝ }
 {
     first_fault(table, board, Test::Apart)
 }
@@ -168,7 +159,7 @@ pub fn not_apart(table: &[u32], board: Board) -> Fault
 // 11: the first wait that is not elusive.
 pub fn not_elusive(table: &[u32], board: Board) -> Fault
     requires { ⌜ SomeSheet (now table) board ⌝ }
-    ensures { λ r. ⌜ ((s : Sheet) → HoldsSheet (now (table .entry)) board s → faultSeen r ≡ firstNotElusive s) ⌝ }
+    ensures { λ r. ⌜ ((s : Sheet) → HoldsSheet (now (table .entry)) board s → FaultFound s (firstNotElusive s) r) ⌝ }
 {
     first_fault(table, board, Test::Elusive)
 }

@@ -14,7 +14,7 @@ use Rattle.rules.specs.Fair.{inWaits, inMoves}
 use Rattle.rules.specs.Outcomes.{countOfWaits, countOfMoves}
 use Rattle.rules.proofs.Lists.{in-first, in-second}
 use Rattle.rules.proofs.Reading.{nodesInWaits, nodesInMoves}
-use Rattle.cells.proofs.Places.{cell-range}
+use Rattle.rules.proofs.Places.{cell-range}
 use Rattle.nodes.specs.Nodes.{nodesOfWaits, nodesOfMoves, aWait, aMove, size, countOf, inNodes}
 use Rattle.nodes.specs.Table.{Property, Each, nothing, first, Row, RowOn, Stand, At}
 

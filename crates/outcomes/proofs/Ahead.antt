@@ -9,7 +9,7 @@ use Rattle.rules.specs.declared.Board.{Board}
 use Rattle.rules.specs.Tree.{Waits, noWaits, wait, Moves, noMoves, move}
 use Rattle.rules.specs.Answering.{andThen}
 use Rattle.rules.specs.Outcomes.{countOfWaits}
-use Rattle.cells.proofs.Places.{cell-range}
+use Rattle.rules.proofs.Places.{cell-range}
 use Rattle.nodes.specs.Nodes.{aWait, aMove, size, nodesOfWaits, nodesOfMoves}
 use Rattle.nodes.specs.Table.{cellIn, endIn, Each, At}
 use Rattle.nodes.proofs.Trees.{moves-count, wait-first, move-first}

@@ -20,8 +20,8 @@ use Rattle.rules.specs.Reading.{Result, refused, got}
 use Rattle.rules.specs.Entries.{_>>=_, refuseUnjoined}
 use Rattle.rules.proofs.Lists.{among-append}
 use Rattle.rules.proofs.Joining.{joined-same}
+use Rattle.rules.proofs.Places.{cell-range}
 use Rattle.cells.specs.Cells.{held}
-use Rattle.cells.proofs.Places.{cell-range}
 use Rattle.nodes.specs.Nodes.{aMove, size, nodesOfWaits, nodesOfMoves}
 use Rattle.nodes.specs.Table.{cellIn, endIn, countIn, Each}
 use Rattle.nodes.proofs.Trees.{moves-count, move-first}

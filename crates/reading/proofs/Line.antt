@@ -1,22 +1,24 @@
 -- What `nodeLine` comes to at a place of the body, refusal by refusal.
-use mathlib.Core.Path.{_≡_, refl, sym, ap, _∙_}
+use mathlib.Core.Path.{_≡_, refl, sym, ap, subst, subst⁻¹, _∙_}
 use Prim.Native.Nat.{ℕ, zero, suc, _+_, _≤_, _<_}
 use native.Mathlib.Nat.{eq-zero-or-pos}
 use native.Mathlib.Omega.{arith}
-use mathlib.Core.Logic.{⊎-elim}
+use mathlib.Core.Logic.{_≢_, ⊎-elim}
+use mathlib.Core.List.{[], _∷_}
 use mathlib.Core.Bool.{Bool, true, false}
 use mathlib.Core.Option.{Option, none, some}
-use lib.ListN.{length, drop, drop-of-length-le}
+use lib.ListN.{length, getD, drop, drop-of-length-le}
 use lib.Seq.{drop-cons}
-use lib.Dec.{ltb}
-use borrow.Author.Tests.{eq-eqb, ne-eqb, ltb-true, ltb-false}
+use lib.Dec.{T, ltb}
+use borrow.Author.Tests.{ltb-true, ltb-false}
 use Rattle.rules.specs.Sizes.{mostNodes}
 use Rattle.rules.specs.Text.{Bytes, Reader}
 use Rattle.rules.specs.Lines.{Line, Place}
 use Rattle.rules.specs.Reading as R
-use Rattle.rules.specs.Reading.{refused, got, within, cellOf, placed, atDepth, wellFormed, counted, nodeLine}
+use Rattle.rules.specs.Reading.{refused, got, within, nodeHere, nodeLine}
 use Rattle.rules.specs.declared.Board.{Board}
 use Rattle.rules.specs.declared.Verdict.the-variants.{BadLine, OffBoard, TooManyNodes, TooDeep, Unfinished}
+use Rattle.rules.proofs.NodeLine.{LineBegins, LineSeen, sees-end, sees-many, sees-bad, sees-deep, sees-off, sees-line, seen-is}
 use Rattle.lines.specs.Numbered.{numbered}
 use Rattle.lines.specs.declared.Numbered.the-variants.{On}
 use Rattle.lines.proofs.OnBoard.{numbered-on}
@@ -28,54 +30,44 @@ use Rattle.reading.specs.Kept.{nextSpot, LineGot}
 use Rattle.reading.specs.declared.Spot.{Spot}
 
 module _ (b : Board) (r : Reader Line) (levels : ℕ) (body : Bytes) (s : Spot) where
-  pub line-unfinished : length body ≤ s .at → nodeLine b r levels (spotOf body s) ≡ refused (Unfinished (s .line))
-  unfolding nodeLine
-  line-unfinished h = rw (drop-of-length-le body h)
+  abbrev comesTo : R.Result (R.Node × R.Spot) → Type 0
+  comesTo q = nodeLine b r levels (spotOf body s) ≡ q
 
-  begun : s .at < length body → nodeLine b r levels (spotOf body s) ≡ counted b r levels (spotOf body s)
-  unfolding nodeLine
-  begun h = rw (drop-cons body (s .at) 0 h)
+  seen : (q : R.Result (R.Node × R.Spot)) → LineSeen b r levels (spotOf body s) q → comesTo q
+  seen q h = seen-is b r levels (spotOf body s) q h
 
-  pub line-many : s .at < length body → s .nodes ≡ mostNodes → nodeLine b r levels (spotOf body s) ≡ refused (TooManyNodes (s .line))
-  unfolding counted
-  line-many h e = begun h ∙ rw (eq-eqb (s .nodes) mostNodes e)
+  pub line-unfinished : length body ≤ s .at → comesTo (refused (Unfinished (s .line)))
+  line-unfinished h = seen _ (sees-end (drop-of-length-le body h))
 
-  not-many : s .at < length body → (s .nodes ≡ mostNodes → ⊥) → (o : Option (Line × Bytes)) → r (drop (s .at) body) ≡ o
-      → nodeLine b r levels (spotOf body s) ≡ wellFormed b levels (spotOf body s) o
-  unfolding counted
-  not-many h e o q = begun h ∙ rw (ne-eqb (s .nodes) mostNodes e, q)
+  module _ (h : s .at < length body) where
+    some-left : drop (s .at) body ≢ []
+    some-left e = let z : _≡_ {A = Bytes} (getD body (s .at) 0 ∷ drop (suc (s .at)) body) [] = sym (drop-cons body (s .at) 0 h) ∙ e in cc
 
-  pub line-bad : s .at < length body → (s .nodes ≡ mostNodes → ⊥) → r (drop (s .at) body) ≡ none → nodeLine b r levels (spotOf body s) ≡ refused (BadLine (s .line))
-  unfolding wellFormed
-  line-bad h e q = not-many h e none q
+    pub line-many : s .nodes ≡ mostNodes → comesTo (refused (TooManyNodes (s .line)))
+    line-many e = seen _ (sees-many some-left e)
 
-  module _ (h : s .at < length body) (e : s .nodes ≡ mostNodes → ⊥) (x : Line × Bytes) (q : r (drop (s .at) body) ≡ some x) where
-    pub line-deep : levels ≡ 0 → nodeLine b r levels (spotOf body s) ≡ refused (TooDeep (s .line))
-    unfolding wellFormed atDepth
-    line-deep z = not-many h e (some x) q ∙ ap (λ (n : ℕ). wellFormed b n (spotOf body s) (some x)) z
+    module _ (e : s .nodes ≡ mostNodes → ⊥) where
+      may-begin : LineBegins (spotOf body s)
+      may-begin = record { some-text = some-left; not-full = e }
 
-    deep-enough : (levels ≡ 0 → ⊥) → nodeLine b r levels (spotOf body s) ≡ placed b (spotOf body s) x
-    unfolding wellFormed
-    deep-enough z = not-many h e (some x) q ∙ go levels z
-      where
-        go : (n : ℕ) → (n ≡ 0 → ⊥) → atDepth b n (spotOf body s) x ≡ placed b (spotOf body s) x
-        go zero f = absurd (f refl)
-        go (suc n) f = unfold atDepth in refl
+      pub line-bad : r (drop (s .at) body) ≡ none → comesTo (refused (BadLine (s .line)))
+      line-bad q = seen _ (sees-bad may-begin q)
 
-    pub line-off : (levels ≡ 0 → ⊥) → within b (x .0 .place) ≡ false → nodeLine b r levels (spotOf body s) ≡ refused (OffBoard (s .line))
-    unfolding placed
-    line-off z w = deep-enough z ∙ rw w
+      module _ (x : Line × Bytes) (q : r (drop (s .at) body) ≡ some x) where
+        pub line-deep : levels ≡ 0 → comesTo (refused (TooDeep (s .line)))
+        line-deep z = seen _ (sees-deep may-begin x q z)
 
-    pub line-got : (levels ≡ 0 → ⊥) → within b (x .0 .place) ≡ true
-        → nodeLine b r levels (spotOf body s)
-        ≡ got (record { line = s .line; cell = cellOf b (x .0 .place); under = x .0 .under }, record { text = x .1; line = s .line + 1; nodes = s .nodes + 1 })
-    unfolding placed
-    line-got z w = deep-enough z ∙ rw w
+        pub line-off : (levels ≡ 0 → ⊥) → within b (x .0 .place) ≡ false → comesTo (refused (OffBoard (s .line)))
+        line-off z w = seen _ (sees-off may-begin x q z (λ k. subst T w k))
+
+        pub line-got : (levels ≡ 0 → ⊥) → within b (x .0 .place) ≡ true → comesTo (nodeHere b x (spotOf body s))
+        line-got z w = seen _ (sees-line may-begin x q z (subst⁻¹ T w tt))
 
 -- a line that was got, with its cell's number, and the spot after it
 pub line-kept : (b : Board) (k : Kind) (levels : ℕ) (body : Bytes) (s : Spot) (p : Option Place) (under cell next : ℕ) → Ready b body s
     → s .at < length body → (s .nodes ≡ mostNodes → ⊥) → Reads body (s .at) (lineOf k) (some (record { place = p; under = under }, next)) → (levels ≡ 0 → ⊥)
     → On cell ≡ numbered b p → LineGot b k levels body s cell under next
+unfolding nodeHere
 line-kept b k levels body s p under cell next ready h full q z n =
     let w = numbered-on b p cell n in
     record {

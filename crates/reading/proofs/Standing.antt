@@ -13,7 +13,8 @@ use Rattle.rules.specs.Lines.{Line, waitLine, moveLine}
 use Rattle.rules.specs.Tree.{Wait, Move, asWaits, asMoves}
 use Rattle.rules.specs.Reading.{Result, refused, got, Spot, Reading, Node, go, give, cellOf, nodeLine, inTurn, readMove, readWait}
 use Rattle.rules.specs.declared.Board.{Board}
-use Rattle.rules.proofs.Reading.{NodeRead, node-read, wait-says}
+use Rattle.rules.proofs.Lines.{wait-says}
+use Rattle.rules.proofs.Reading.{NodeRead, node-read}
 use Rattle.nodes.specs.Nodes.{Nodes, noNodes, node, many, size, nodesOfWaits, nodesOfMoves}
 use Rattle.nodes.specs.Nodes as N
 use Rattle.nodes.specs.Table.{withNode, Row, Each, nothing, first, At, Stand}

@@ -7,10 +7,10 @@ use native.Mathlib.Omega.{arith}
 use lib.ListN.{length, getD, take, drop, length-take, length-drop, take-append-drop}
 use lib.Seq.{drop-drop, getD-take, getD-drop}
 use Rattle.rules.specs.Text.{Bytes}
-use Rattle.report.specs.Decimal.{decimal}
+use Rattle.rules.specs.Decimal.{decimal}
 use Rattle.report.specs.Line.{fields}
-use Rattle.report.proofs.Decimal.{Every, every-tail, every-so, decimal-digits}
-use Rattle.report.proofs.ReadBack.{decimal-one}
+use Rattle.rules.proofs.Decimal.{Every, every-tail, every-so, decimal-digits}
+use Rattle.rules.proofs.ReadBack.{decimal-one}
 use Rattle.replies.specs.Request.{FieldEnd}
 
 -- no byte of a field is a tab

@@ -9,10 +9,10 @@ use native.Mathlib.Omega.{arith}
 use lib.ListN.{length, getD, take, drop, set, length-set, length-append, List·getD-eq-default}
 use lib.Seq.{length-take-le, take-suc-set, drop-cons, drop-length, getD-at}
 use Rattle.rules.specs.Text.{Bytes}
-use Rattle.report.specs.Decimal.{decimal}
+use Rattle.rules.specs.Decimal.{decimal}
 use Rattle.report.specs.Line.{fields}
 use Rattle.report.proofs.Line.{fields-append}
-use Rattle.report.proofs.Decimal.{Every, every-none, every-more, every-append}
+use Rattle.rules.proofs.Decimal.{Every, every-none, every-more, every-append}
 use Rattle.replies.specs.Request.{largest, NumberReply, FieldEnd, CountOf, CountReply}
 use Rattle.replies.specs.declared.requests.CountRead.{CountRead}
 use Rattle.replies.specs.declared.requests.CountRead.the-variants as CountRead

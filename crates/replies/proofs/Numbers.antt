@@ -11,9 +11,9 @@ use lib.ListN.{length, getD, take}
 use lib.Seq.{take-suc, take-all}
 use borrow.Author.Tests.{not-true, eqb-false}
 use Rattle.rules.specs.Text.{Bytes, wellSpelled}
-use Rattle.report.specs.Decimal.{decimal}
-use Rattle.report.proofs.Decimal.{decimal-low, decimal-high, Digit, decimal-digits}
-use Rattle.report.proofs.ReadBack.{decimal-spells, decimal-well, spelled-take}
+use Rattle.rules.specs.Decimal.{decimal}
+use Rattle.rules.proofs.Decimal.{decimal-low, decimal-high, Digit, decimal-digits}
+use Rattle.rules.proofs.ReadBack.{decimal-spells, decimal-well, spelled-take}
 use Rattle.replies.specs.Request.{largest, Plain, NumberReply}
 use Rattle.replies.specs.declared.requests.NumberRead.{NumberRead}
 use Rattle.replies.specs.declared.requests.NumberRead.the-variants as NumberRead

@@ -13,7 +13,7 @@ use Rattle.rules.specs.Words.{if_then_else_}
 use Rattle.rules.proofs.Tests.{fst, snd}
 use Rattle.report.specs.Line.{fields}
 use Rattle.report.proofs.Line.{fields-every, fields-short}
-use Rattle.report.proofs.Decimal.{Every, every-none, every-more, every-append, every-so}
+use Rattle.rules.proofs.Decimal.{Every, every-none, every-more, every-append, every-so}
 use Rattle.replies.specs.Request.{nameOf, FieldEnd, CountOf, AskReply, Counted, RequestOf, Asked, RequestReply, LineOf, LineReply}
 use Rattle.replies.specs.declared.requests.Ask.{Ask}
 use Rattle.replies.specs.declared.requests.Ask.the-variants as Ask

@@ -4,9 +4,9 @@ use mathlib.Core.Path.{_≡_, refl}
 use Prim.Native.Nat.{ℕ}
 use mathlib.Core.List.{[], _∷_, _++_}
 use Rattle.rules.specs.Words.{oneIf}
-use Rattle.rules.specs.Entries.{_>>=_, refuseIf, read, accepted, judged, judge, refusedPlay, playOn, play, named, outcome}
+use Rattle.rules.specs.Entries.{_>>=_, refuseIf, readText, read, accepted, judged, judge, refusedPlay, playOn, play, named, outcome}
 use Rattle.rules.specs.Samples.{byteOf, sheet}
-use Rattle.report.specs.Decimal.{leading, decimal}
+use Rattle.rules.specs.Decimal.{leading, decimal}
 use Rattle.report.specs.Line.{fields, lineOf, reportLine, judgeLine}
 use Rattle.replies.specs.Request.{nameOf}
 use Rattle.replies.specs.Reply.{playLine, outcomeLine, replyOf}
@@ -23,5 +23,5 @@ unfolding leading decimal fields byteOf sheet
 lines = (refl, refl, refl)
 
 replies : (replyOf (asking Ask.Judge 2 0) (0 ∷ 0 ∷ []) [] ≡ sheet "1 0 0 0 0 0 0/") × (replyOf (asking Ask.Play 4 2) (0 ∷ 0 ∷ 2 ∷ 10 ∷ []) [] ≡ sheet "1 0 0 0 0 0 0/") × (replyOf (asking Ask.Outcome 4 0) (0 ∷ 0 ∷ 0 ∷ 7 ∷ []) [] ≡ sheet "1 0 0 0 0/")
-unfolding oneIf _>>=_ refuseIf read accepted judged judge refusedPlay playOn play named outcome byteOf sheet leading decimal fields lineOf reportLine judgeLine playLine outcomeLine replyOf asking
+unfolding oneIf _>>=_ refuseIf read readText accepted judged judge refusedPlay playOn play named outcome byteOf sheet leading decimal fields lineOf reportLine judgeLine playLine outcomeLine replyOf asking
 replies = (refl, refl, refl)

@@ -4,7 +4,7 @@ use Prim.Native.Nat.{ℕ, _<_, _≤_}
 use mathlib.Core.List.{List, [], _∷_, _++_}
 use lib.ListN.{length, getD, take, drop}
 use Rattle.rules.specs.Text.{Bytes}
-use Rattle.report.specs.Decimal.{decimal}
+use Rattle.rules.specs.Decimal.{decimal}
 use Rattle.report.specs.Line.{fields}
 use Rattle.replies.specs.declared.requests.Ask.{Ask}
 use Rattle.replies.specs.declared.requests.Ask.the-variants as Ask

@@ -1,7 +1,5 @@
 -- The laws that belong to no one function.
-pub mod Decimal
 pub mod Line
 pub mod Numbers
-pub mod ReadBack
 pub mod Samples
 pub mod Writing

@@ -11,10 +11,10 @@ use Rattle.rules.specs.Verdict.{told}
 use Rattle.rules.specs.Entries.{JudgeKept}
 use Rattle.rules.specs.declared.Told.{Told}
 use Rattle.rules.specs.declared.Verdict.{Verdict}
-use Rattle.report.specs.Decimal.{decimal}
+use Rattle.rules.specs.Decimal.{decimal}
 use Rattle.report.specs.Line.{fields, lineOf, reportLine, judgeLine}
 use Rattle.report.specs.Writing.{Wrote, WroteWithin}
-use Rattle.report.proofs.Decimal.{Every, every-none, every-more, every-tail, every-append, every-so, Digit, decimal-digits, decimal-short}
+use Rattle.rules.proofs.Decimal.{Every, every-none, every-more, every-tail, every-append, every-so, Digit, decimal-digits, decimal-short}
 use Rattle.report.proofs.Writing.{wrote-none, wrote-length, wrote-then}
 
 -- the numbers of two lists stand one list after the other
@@ -84,7 +84,7 @@ wrote-line n a b v w x u = rw (line-parts n a b) (wrote-then (wrote-then (wrote-
 
 -- the judging program's line is that of what is told
 pub wrote-report : {t s : Told} {room : List ℕ} {at : ℕ} {room′ : List ℕ} {n : ℕ} → t ≡ s
-    → Wrote (lineOf (t .number) (t .line ∷ t .cell ∷ t .index ∷ t .moves ∷ t .waits ∷ t .outcomes ∷ [])) room at room′ n
+    → Wrote (lineOf (t .number) (t .line ∷ t .cell ∷ t .index ∷ t .counts .moves ∷ t .counts .waits ∷ t .counts .outcomes ∷ [])) room at room′ n
     → Wrote (reportLine s) room at room′ n
 unfolding reportLine
 wrote-report e p = rw (← e) p

@@ -5,9 +5,9 @@ use mathlib.Core.List.{[], _∷_}
 use native.Mathlib.Omega.{arith}
 use lib.ListN.{length}
 use Rattle.rules.specs.Text.{Bytes}
-use Rattle.report.specs.Decimal.{decimal}
+use Rattle.rules.specs.Decimal.{decimal}
 use Rattle.report.specs.Writing.{Wrote, WroteWithin}
-use Rattle.report.proofs.Decimal.{decimal-low, decimal-high, decimal-short}
+use Rattle.rules.proofs.Decimal.{decimal-low, decimal-high, decimal-short}
 use Rattle.report.proofs.Writing.{wrote-length, wrote-then}
 
 -- a number below ten is its one digit

@@ -1,4 +1,3 @@
 -- What the contracts of the crate cite.
-pub mod Decimal
 pub mod Line
 pub mod Writing

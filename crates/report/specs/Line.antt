@@ -5,7 +5,7 @@ use Rattle.rules.specs.Text.{Bytes}
 use Rattle.rules.specs.Verdict.{told}
 use Rattle.rules.specs.Entries.{judge}
 use Rattle.rules.specs.declared.Told.{Told}
-use Rattle.report.specs.Decimal.{decimal}
+use Rattle.rules.specs.Decimal.{decimal}
 
 -- further numbers of a line, each after a tab
 unfoldable pub fields : List ℕ → Bytes
@@ -18,7 +18,7 @@ lineOf n ns = decimal n ++ fields ns ++ 10 ∷ []
 
 -- the line that the judging program prints: verdict, line, cell, index, moves, waits, outcomes
 unfoldable pub reportLine : Told → Bytes
-reportLine t = lineOf (t .number) (t .line ∷ t .cell ∷ t .index ∷ t .moves ∷ t .waits ∷ t .outcomes ∷ [])
+reportLine t = lineOf (t .number) (t .line ∷ t .cell ∷ t .index ∷ t .counts .moves ∷ t .counts .waits ∷ t .counts .outcomes ∷ [])
 
 -- and that of a sheet's text, judged with a workspace of so many numbers
 unfoldable pub judgeLine : (workspace : ℕ) → Bytes → Bytes

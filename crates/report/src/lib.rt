@@ -5,13 +5,14 @@ ghost use mathlib.Core.List.{[], _∷_, _++_};
 ghost use lib.ListN.{length};
 ghost use Rattle.rules.specs.Words.{oneIf};
 ghost use Rattle.rules.specs.Verdict.{told, toldAs};
-ghost use Rattle.report.specs.Decimal.{decimal};
+ghost use Rattle.rules.specs.Decimal.{decimal};
 ghost use Rattle.report.specs.Line.{fields, lineOf, reportLine};
 ghost use Rattle.report.specs.Writing.{Wrote, WroteWithin};
+use rules::Counts;
 use rules::Told;
 use rules::Verdict;
 
-// What document 01 says of a refusal: all three counts are 0.
+// What document 01 says of a refusal: the counts are 0.
 fn refusal(number: u32, line: u32, cell: u32, index: u32) -> Told
     ensures { λ r. ⌜ r ≡ toldAs number line cell index ⌝ }
 {
@@ -20,9 +21,11 @@ fn refusal(number: u32, line: u32, cell: u32, index: u32) -> Told
         line,
         cell,
         index,
-        moves: 0,
-        waits: 0,
-        outcomes: 0,
+        counts: Counts {
+            moves: 0,
+            waits: 0,
+            outcomes: 0,
+        },
     }
 }
 
@@ -31,18 +34,12 @@ pub fn tell(v: Verdict) -> Told
     ensures { λ r. ⌜ r ≡ told v ⌝ }
 {
     match v {
-        Verdict::Accepted {
-            moves,
-            waits,
-            outcomes,
-        } => Told {
+        Verdict::Accepted { counts } => Told {
             number: 0,
             line: 0,
             cell: 0,
             index: 0,
-            moves,
-            waits,
-            outcomes,
+            counts,
         },
         Verdict::Done => refusal(0, 0, 0, 0),
         Verdict::SmallWorkspace => refusal(1, 0, 0, 0),
@@ -133,6 +130,7 @@ pub fn report(room: &mut [u8], at: usize, v: Verdict) -> usize
 {
     let told = tell(v);
     let place = [told.line, told.cell, told.index];
-    let counts = [told.moves, told.waits, told.outcomes];
-    write_line(room, at, told.number, &place, &counts)
+    let counts = told.counts;
+    let counted = [counts.moves, counts.waits, counts.outcomes];
+    write_line(room, at, told.number, &place, &counted)
 }

@@ -8,7 +8,9 @@ use native.Mathlib.Omega.{arith}
 use lib.Dec.{T, eqb, leb, leb→le, eqb-refl, nleb→lt, not-T, T-not}
 use Rattle.rules.specs.Tree.{Waits, noWaits, wait, Moves, noMoves, move}
 use Rattle.rules.specs.Fair.{inWaits, inMoves, inMove, inEvery}
-use Rattle.rules.specs.Answering.{PlaceIn, cellThere, waitsThere, Choice, waitHolds, moveHolds, allowed, firstMove, firstUnder, smallestLine, firstLine, touchedAnswer, freeAnswer, answer}
+use Rattle.rules.specs.Choice.{the-first, one-later, PlaceIn, cellThere, waitsThere, Choice, firstMove, firstUnder}
+use Rattle.rules.specs.Answering.{smallestLine, firstLine, touchedAnswer, freeAnswer, answer}
+use Rattle.rules.specs.Holder.{waitHolds, moveHolds, allowed}
 use Rattle.rules.proofs.Tests.{decide, both, fst, snd, left, right, cases, nand, twice, cond-yes, cond-no}
 use Rattle.rules.proofs.Opening.{Elusive, FairWaits, waitsIn, at-in}
 
@@ -21,24 +23,24 @@ pub record Finds (which : ℕ → Moves → Bool) (test : ℕ → Waits → Bool
 -- found under the first wait, or under a later one
 module _ (which : ℕ → Moves → Bool) (test : ℕ → Waits → Bool) (P : (ws : Waits) → Choice ws → Type 0) where
   finds-here : (line : ℕ) (ms : Moves) (ws : Waits) → T (which line ms) → (p : PlaceIn ms) → firstMove test ms ≡ some p
-      → P (wait line ms ws) (inl p) → Finds which test P (wait line ms ws)
+      → P (wait line ms ws) (the-first p) → Finds which test P (wait line ms ws)
   finds-here line ms ws i p e f =
       record {
-        choice = inl p;
+        choice = the-first p;
         is-first =
-            cond-yes (which line ms) (Option·map inl (firstMove test ms)) (Option·map inr (firstUnder which test ws)) i
-            ∙ ap (λ (q : Option (PlaceIn ms)). Option·map inl q) e;
+            cond-yes (which line ms) (Option·map the-first (firstMove test ms)) (Option·map one-later (firstUnder which test ws)) i
+            ∙ ap (λ (q : Option (PlaceIn ms)). Option·map the-first q) e;
         fact = f;
       }
 
   finds-later : (line : ℕ) (ms : Moves) (ws : Waits) → T (not (which line ms)) → (d : Finds which test P ws)
-      → P (wait line ms ws) (inr (d .choice)) → Finds which test P (wait line ms ws)
+      → P (wait line ms ws) (one-later (d .choice)) → Finds which test P (wait line ms ws)
   finds-later line ms ws n d f =
       record {
-        choice = inr (d .choice);
+        choice = one-later (d .choice);
         is-first =
-            cond-no (which line ms) (Option·map inl (firstMove test ms)) (Option·map inr (firstUnder which test ws)) n
-            ∙ ap (λ (q : Option (Choice ws)). Option·map inr q) (d .is-first);
+            cond-no (which line ms) (Option·map the-first (firstMove test ms)) (Option·map one-later (firstUnder which test ws)) n
+            ∙ ap (λ (q : Option (Choice ws)). Option·map one-later q) (d .is-first);
         fact = f;
       }
 
@@ -51,8 +53,8 @@ Dodge x ms = (p : PlaceIn ms) × (firstMove (without x) ms ≡ some p) × T (wit
 
 dodge-later : (x line c : ℕ) (ws : Waits) (ms : Moves) → T (inMove c ws x) → Dodge x ms → Dodge x (move line c ws ms)
 dodge-later x line c ws ms i d = (
-  inr (d .0),
-  cond-no (without x c ws) (some (inl tt)) (Option·map inr (firstMove (without x) ms)) (twice (inMove c ws x) i) ∙ ap (λ (q : Option (PlaceIn ms)). Option·map inr q) (d .1),
+  one-later (d .0),
+  cond-no (without x c ws) (some (the-first tt)) (Option·map one-later (firstMove (without x) ms)) (twice (inMove c ws x) i) ∙ ap (λ (q : Option (PlaceIn ms)). Option·map one-later q) (d .1),
   d .2,
 )
 
@@ -62,7 +64,7 @@ dodge x noMoves h = absurd h
 dodge x (move line c ws ms) h =
     ⊎-elim
     (λ i. dodge-later x line c ws ms i (dodge x ms (⊎-elim (λ n. absurd (T-not (inMove c ws x) n i)) (λ n. n) (nand (inMove c ws x) (inEvery ms x) h))))
-    (λ n. (inl tt, cond-yes (without x c ws) (some (inl tt)) (Option·map inr (firstMove (without x) ms)) n, n))
+    (λ n. (the-first tt, cond-yes (without x c ws) (some (the-first tt)) (Option·map one-later (firstMove (without x) ms)) n, n))
     (decide (inMove c ws x))
 
 -- The rule where x is a cell of an open wait
@@ -92,7 +94,7 @@ Any ws k = Unit {0}
 first-passes : (test : ℕ → Waits → Bool) → ((c : ℕ) (ws : Waits) → T (test c ws)) → (ms : Moves) → Elusive ms → (p : PlaceIn ms) × (firstMove test ms ≡ some p)
 unfolding inEvery
 first-passes test all noMoves e = absurd (e 0)
-first-passes test all (move line c ws ms) e = (inl tt, cond-yes (test c ws) (some (inl tt)) (Option·map inr (firstMove test ms)) (all c ws))
+first-passes test all (move line c ws ms) e = (the-first tt, cond-yes (test c ws) (some (the-first tt)) (Option·map one-later (firstMove test ms)) (all c ws))
 
 free : (test : ℕ → Waits → Bool) → ((c : ℕ) (ws : Waits) → T (test c ws)) → (n : ℕ) (ws : Waits) → FairWaits ws → T (hasLine n ws)
     → Finds (λ line ms. eqb line n) test Any ws
@@ -135,8 +137,8 @@ first-line (wait line ms ws) h =
 held : (x : ℕ) (ws : Waits) (k : Choice ws) → T (moveHolds x ws k) → T (inWaits ws x)
 unfolding inWaits
 held x noWaits k h = absurd k
-held x (wait line ms ws) (inl p) h = left (inMoves ms x) (inWaits ws x) (at-in x ms p h)
-held x (wait line ms ws) (inr k) h = right (inMoves ms x) (inWaits ws x) (held x ws k h)
+held x (wait line ms ws) (the-first p) h = left (inMoves ms x) (inWaits ws x) (at-in x ms p h)
+held x (wait line ms ws) (one-later k) h = right (inMoves ms x) (inWaits ws x) (held x ws k h)
 
 -- What `allowed` says, and how to show it
 allow : (x : ℕ) (ws : Waits) (k : Choice ws) → T (not (moveHolds x ws k)) → T (waitHolds x ws k) ⊎ T (not (inWaits ws x)) → T (allowed x ws k)

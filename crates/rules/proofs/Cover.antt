@@ -19,15 +19,16 @@ use Rattle.rules.specs.Tree.{Waits, noWaits, wait, Moves, noMoves, move,
 use Rattle.rules.specs.Reading.{got}
 use Rattle.rules.specs.Fair.{inWaits, inMoves, inMove, holding, inEvery}
 use Rattle.rules.specs.Outcomes.{outcomes, outcomesOfWaits}
-use Rattle.rules.specs.Answering.{Choice, taken, opened, allowed, answer, Game, start, mine, isOver, isTaken, isEmpty, next, answeredBy, answered}
-use Rattle.rules.specs.Entries.{_>>=_, refuseIf, step, played, rounds, playedOut, playOn, play}
+use Rattle.rules.specs.Choice.{Choice, taken, opened}
+use Rattle.rules.specs.Answering.{answer, Game, start, mine, isOver, isTaken, isEmpty, next, answeredBy, answered}
+use Rattle.rules.specs.Entries.{_>>=_, refuseIf, accepted, step, played, rounds, playedOut, playOn, play}
 use Rattle.rules.specs.Plain.{IsApart, IsElusive, IsSheet}
-use Rattle.rules.specs.Promise.{Chosen, no-round, round, Ruled, no-move, one-move, Against, no-turn, turn, MovesToEmpty, Covered, Demand3, Demand3Chosen, Demand3Played, Demand3Joined, Demand3Opposed, Demand3Each}
+use Rattle.rules.specs.Promise.{Ruled, no-move, one-move, Against, no-turn, turn, MovesToEmpty, JoinedAgainst, AnsweredAt, PlaysOut, Demand3}
+use Rattle.rules.specs.Holder.{allowed, Chosen, no-round, round, Covered, HasChoice, Demand3Chosen}
 use Rattle.rules.specs.declared.Board.{Board}
 use Rattle.rules.proofs.Tests.{true-of, false-of, decide, both, fst, snd, left, cases, nor}
 use Rattle.rules.proofs.Lists.{in-append, in-first, in-second, append-left, append-right}
 use Rattle.rules.proofs.Joining.{joined-more, joins→joined}
-use Rattle.rules.proofs.WellRead.{well-read}
 use Rattle.rules.proofs.Smallest.{smallest-some, smallest-none}
 use Rattle.rules.proofs.Given.{accepted-exactly}
 use Rattle.rules.proofs.EachOutcome.{Each, Inside, each-in, each-unmap, each-opened}
@@ -118,13 +119,13 @@ record Safe (s : Sheet) (g : Game) : Type 0 where
 begin : (w : ℕ) (t : Bytes) (s : Sheet) → IsSheet w t s → Safe s (start s)
 unfolding start mine everyMove everyWait outcomes among stone
 begin w t s a =
-    let r = well-read t s (a .reads) in
+    let r = a .fair .read .spells .well in
     let b = s .board in
     let ws = s .root .waits in
     let on = board-waits b ws (r .on-board) in
-    let top = apart-all b (s .root) on (a .apart (s .root) at-head) in
+    let top = apart-all b (s .root) on (a .fair .apart (s .root) at-head) in
     record {
-      fair = fair-waits b ws (λ m i. (r .on-board m i, a .apart m (in-tail i))) (λ v i. (r .some-moves v i, a .elusive v i));
+      fair = fair-waits b ws (λ m i. (r .on-board m i, a .fair .apart m (in-tail i))) (λ v i. (r .some-moves v i, a .fair .elusive v i));
       once = top .once;
       board = λ y h. on y (hold-in y ws h);
       off-mine =
@@ -259,18 +260,16 @@ all-waits : (s : Sheet) → waitsIn (start s .open-waits) ≡ waitCount s
 unfolding start waitCount everyWait
 all-waits s = sym (waits-counted (s .root .waits))
 
+-- every game that allowed choices lead to
+begun : (w : ℕ) (t : Bytes) (s : Sheet) → accepted w t ≡ got s → Safe s (start s)
+begun w t s e = begin w t s (accepted-exactly w t s .0 e)
+
 -- Demand 3, whatever allowed moves the holder takes
 pub demand-3-chosen : Demand3Chosen
 demand-3-chosen w t s e n g r =
-    let t₁ = chosen-safe s (start s) n g r (begin w t s (accepted-exactly w t s .0 e)) in
-    let i = t₁ .0 in (
-      covered s n g i (omega (arith, t₁ .1, all-waits s)),
-      record {
-        offered = λ u x m.
-            let a = answers x (g .open-waits) (i .fair) (waiting s g i u) in
-            (a .0, a .2);
-        to-empty = choice-empty s g i;
-      },
+    let (i, fewer) = chosen-safe s (start s) n g r (begun w t s e) in (
+      covered s n g i (omega (arith, fewer, all-waits s)),
+      record { offered = λ u x m. answers x (g .open-waits) (i .fair) (waiting s g i u); to-empty = choice-empty s g i },
     )
 
 -- the answering rule makes allowed choices
@@ -291,19 +290,6 @@ ruled-chosen s g _ h (one-move {x = x} {xs = xs} u e r) i =
     let a = answers x (g .open-waits) (i .fair) (waiting s g i u) in
     let same = rule-next g x (a .0) (a .1) in
     round x (a .0) u e (a .2) (subst (λ (z : Game). Chosen s z (length xs) h) same (ruled-chosen s (answered g x) xs h r (rule-safe s g i u x .0)))
-
--- Demand 3, played by the answering rule
-pub demand-3 : Demand3
-demand-3 w t s e xs g r =
-    let start-safe = begin w t s (accepted-exactly w t s .0 e) in
-    let c = ruled-chosen s (start s) xs g r start-safe in
-    let i = (chosen-safe s (start s) (length xs) g c start-safe) .0 in (
-      (demand-3-chosen w t s e (length xs) g c) .0,
-      λ u x m.
-          let a = answers x (g .open-waits) (i .fair) (waiting s g i u) in
-          let f = choice-empty s g i x (a .0) (a .2) in
-          record { choice = a .0; is-answer = a .1; is-allowed = a .2; was-empty = f .0; not-theirs = f .1 },
-    )
 
 -- a game against an opponent goes on where it ended
 against-more : (s : Sheet) (opponent : Game → ℕ) (g h k : Game) (xs ys : List ℕ) → Against s opponent g xs h → Against s opponent h ys k → Against s opponent g (xs ++ ys) k
@@ -327,11 +313,9 @@ to-the-end s opponent moves (suc fuel) before g q i c =
     (x ∷ r .0, r .1, turn u (r .2), one-move u (moves before g q u) (r .3), r .4, omega (arith, r .5)))
     (decide (isOver s g))
 
-pub demand-3-joined : Demand3Joined
-demand-3-joined w t s e opponent moves =
-    let r =
-    to-the-end s opponent moves (waitCount s) [] (start s) no-turn (begin w t s (accepted-exactly w t s .0 e)) (omega (arith, all-waits s))
-    in
+joined-against : (s : Sheet) → Safe s (start s) → (opponent : Game → ℕ) → MovesToEmpty s opponent → JoinedAgainst s opponent
+joined-against s i opponent moves =
+    let r = to-the-end s opponent moves (waitCount s) [] (start s) no-turn i (omega (arith, all-waits s)) in
     record { moves = r .0; game = r .1; his = r .2; ruled = r .3; joined = r .4; within = r .5 }
 
 -- there is such an opponent
@@ -340,10 +324,10 @@ against-safe s opponent g _ _ no-turn i = i
 against-safe s opponent g _ h (turn {xs = xs} u q) i =
     against-safe s opponent (answered g (opponent g)) xs h q (rule-safe s g i u (opponent g) .0)
 
-pub demand-3-opposed : Demand3Opposed
+some-opponent : (s : Sheet) → Safe s (start s) → MovesToEmpty s (λ g. smallest (s .board) (isEmpty s g))
 unfolding isEmpty
-demand-3-opposed w t s e xs g q u =
-    let i = against-safe s (λ g. smallest (s .board) (isEmpty s g)) (start s) xs g q (begin w t s (accepted-exactly w t s .0 e)) in
+some-opponent s safe xs g q u =
+    let i = against-safe s (λ g. smallest (s .board) (isEmpty s g)) (start s) xs g q safe in
     let a = answers 0 (g .open-waits) (i .fair) (waiting s g i u) in
     let y = taken (g .open-waits) (a .0) in
     let y-empty = cell-empty s g i y (taken-hold (g .open-waits) (a .0)) in
@@ -388,27 +372,28 @@ next-answer s g x k e n h c =
       ap (λ (z : Game). length (z .answers)) same ∙ length-append (g .answers) (taken (g .open-waits) k ∷ []),
     )
 
-each-answer : (s : Sheet) (before : List ℕ) (g : Game) → Ruled s (start s) before g → Safe s g → (xs : List ℕ) (h : Game) → Ruled s g xs h
+each-on : (s : Sheet) (before : List ℕ) (g : Game) → Ruled s (start s) before g → Safe s g → (xs : List ℕ) (h : Game) → Ruled s g xs h
     → (k : ℕ) → k < length xs → (at : ℕ) → at ≡ length (g .answers) + k → AnsweredOn s before xs k (getD (h .answers) at 0)
-each-answer s before g q i _ h no-move k small at is = absurd (omega (arith, small))
-each-answer s before g q i _ h (one-move {x = x} {xs = xs} u e r) zero small at is =
+each-on s before g q i _ h no-move k small at is = absurd (omega (arith, small))
+each-on s before g q i _ h (one-move {x = x} {xs = xs} u e r) zero small at is =
     let a = answers x (g .open-waits) (i .fair) (waiting s g i u) in
     let f = choice-empty s g i x (a .0) (a .2) in
     let n = next-answer s g x (a .0) (a .1) (length xs) h (ruled-chosen s (answered g x) xs h r (rule-safe s g i u x .0)) in
     let first : at ≡ length (g .answers) = omega (arith, is) in
     record { game = g; stands = rw (append-nil before) q; was-empty = rw (first, n .0) (f .0); not-theirs = rw (first, n .0) (f .1) }
-each-answer s before g q i _ h (one-move {x = x} {xs = xs} u e r) (suc k) small at is =
+each-on s before g q i _ h (one-move {x = x} {xs = xs} u e r) (suc k) small at is =
     let a = answers x (g .open-waits) (i .fair) (waiting s g i u) in
     let safe = rule-safe s g i u x .0 in
     let n = next-answer s g x (a .0) (a .1) (length xs) h (ruled-chosen s (answered g x) xs h r safe) in
     let more = ruled-more s (start s) g (answered g x) before (x ∷ []) q (one-move u e no-move) in
-    let o = each-answer s (before ++ x ∷ []) (answered g x) more safe xs h r k (omega (arith, small)) at (omega (arith, is, n .1)) in
+    let o = each-on s (before ++ x ∷ []) (answered g x) more safe xs h r k (omega (arith, small)) at (omega (arith, is, n .1)) in
     record { game = o .game; stands = rw append-assoc at (o .stands); was-empty = o .was-empty; not-theirs = o .not-theirs }
 
-pub demand-3-each : Demand3Each
-demand-3-each w t s e xs g r place small =
+answered-at : (s : Sheet) → Safe s (start s) → (xs : List ℕ) (g : Game) → Ruled s (start s) xs g → (place : ℕ) → place < length xs
+    → AnsweredAt s xs place (getD (g .answers) place 0)
+answered-at s i xs g r place small =
     let none : length (start s .answers) ≡ 0 = unfold start in refl in
-    let a = each-answer s [] (start s) no-move (begin w t s (accepted-exactly w t s .0 e)) xs g r place small place (omega (arith, none)) in
+    let a = each-on s [] (start s) no-move i xs g r place small place (omega (arith, none)) in
     record { game = a .game; before = a .stands; was-empty = a .was-empty; not-theirs = a .not-theirs }
 
 -- Play's reply to such moves
@@ -440,13 +425,36 @@ chosen-answers s g _ _ no-round = omega arith
 chosen-answers s g _ h (round {n = n} x k u e a r) =
     omega (arith, chosen-answers s (next g x k) n h r, length-append (g .answers) (taken (g .open-waits) k ∷ []))
 
-pub demand-3-played : Demand3Played
+plays-out : (w : ℕ) (t : Bytes) (s : Sheet) → accepted w t ≡ got s → (xs : List ℕ) (g : Game) → Ruled s (start s) xs g → (room : ℕ) → length xs ≤ room
+    → PlaysOut w t s xs room g
 unfolding play playOn playedOut refuseIf _>>=_
-demand-3-played w t s e xs g r room enough =
+plays-out w t s e xs g r room enough =
     record {
       reply = rw (e, le-ltb room (length xs) enough, ruled-played s (start s) 1 xs g r);
-      one-each = counted (ruled-chosen s (start s) xs g r (begin w t s (accepted-exactly w t s .0 e)));
+      one-each = counted (ruled-chosen s (start s) xs g r (begun w t s e));
     }
   where
     counted : Chosen s (start s) (length xs) g → length (g .answers) ≡ length xs
     counted c = let none : length (start s .answers) ≡ 0 = unfold start in refl in omega (arith, none, chosen-answers s (start s) (length xs) g c)
+
+-- Demand 3, the cover's sentence
+pub demand-3 : Demand3
+demand-3 w t s e =
+    record {
+      plays = plays-out w t s e;
+      has-cell = λ xs g r. chosen xs g r .0 .has-cell;
+      has-answer =
+          λ xs g r u x m.
+          let (k, is, may) = chosen xs g r .1 .offered u x m in
+          let (empty, other) = chosen xs g r .1 .to-empty x k may in
+          record { choice = k; is-answer = is; was-empty = empty; not-theirs = other };
+      each-answer = answered-at s (begun w t s e);
+      within = λ xs g r. chosen xs g r .0 .within;
+      not-yet = λ xs g r. chosen xs g r .0 .not-yet;
+      is-joined = joined-against s (begun w t s e);
+      has-opponent = some-opponent s (begun w t s e);
+    }
+  where
+    -- a game by the rule is one of allowed choices
+    chosen : (xs : List ℕ) (g : Game) → Ruled s (start s) xs g → Covered s (length xs) g × HasChoice s g
+    chosen xs g r = demand-3-chosen w t s e (length xs) g (ruled-chosen s (start s) xs g r (begun w t s e))

@@ -7,7 +7,7 @@ use lib.Dec.{T, eqb}
 use Rattle.rules.specs.Words.{_∈_, at-head, in-tail, among}
 use Rattle.rules.specs.Tree.{Waits, noWaits, wait, Moves, noMoves, move, stone}
 use Rattle.rules.specs.Outcomes.{eachWithEach, outcomesOfWaits, outcomesOfMoves}
-use Rattle.rules.specs.Answering.{PlaceIn, cellThere, waitsThere, Choice, taken, andThen, opened}
+use Rattle.rules.specs.Choice.{the-first, one-later, PlaceIn, cellThere, waitsThere, Choice, taken, andThen, opened}
 use Rattle.rules.proofs.Tests.{left, right, cases}
 use Rattle.rules.proofs.Lists.{in-append, append-left, append-right}
 
@@ -60,8 +60,8 @@ each-without K (o ∷ os) ps h = (
 each-at : (K : List ℕ → Type 0) (ms : Moves) (p : PlaceIn ms) → Each K (outcomesOfMoves ms) → Each (λ o. K (stone (cellThere ms p) ++ o)) (outcomesOfWaits (waitsThere ms p))
 unfolding outcomesOfMoves
 each-at K noMoves p h = absurd p
-each-at K (move line c ws ms) (inl u) h = each-unmap K (λ o. stone c ++ o) (outcomesOfWaits ws) (each-front K (map (λ o. stone c ++ o) (outcomesOfWaits ws)) (outcomesOfMoves ms) h)
-each-at K (move line c ws ms) (inr p) h = each-at K ms p (each-back K (map (λ o. stone c ++ o) (outcomesOfWaits ws)) (outcomesOfMoves ms) h)
+each-at K (move line c ws ms) (the-first u) h = each-unmap K (λ o. stone c ++ o) (outcomesOfWaits ws) (each-front K (map (λ o. stone c ++ o) (outcomesOfWaits ws)) (outcomesOfMoves ms) h)
+each-at K (move line c ws ms) (one-later p) h = each-at K ms p (each-back K (map (λ o. stone c ++ o) (outcomesOfWaits ws)) (outcomesOfMoves ms) h)
 
 each-then : (K : List ℕ → Type 0) (vs ws : Waits) → Each (λ o. Each (λ b. K (o ++ b)) (outcomesOfWaits ws)) (outcomesOfWaits vs) → Each K (outcomesOfWaits (andThen vs ws))
 unfolding outcomesOfWaits
@@ -109,14 +109,14 @@ pub each-opened : (ws : Waits) (k : Choice ws) (K L : List ℕ → Type 0)
     → Each K (outcomesOfWaits ws) → Each L (outcomesOfWaits (opened ws k))
 unfolding outcomesOfWaits
 each-opened noWaits k K L f h = absurd k
-each-opened (wait line ms ws) (inl p) K L f h =
+each-opened (wait line ms ws) (the-first p) K L f h =
     let c = cellThere ms p in
     each-then L (waitsThere ms p) ws
     (each-mono (λ o. Each (λ b. K ((stone c ++ o) ++ b)) (outcomesOfWaits ws)) (λ o. Each (λ b. L (o ++ b)) (outcomesOfWaits ws))
     (λ o. each-mono (λ b. K ((stone c ++ o) ++ b)) (λ b. L (o ++ b)) (λ b. f ((stone c ++ o) ++ b) (o ++ b) (after-stone c o b)) (outcomesOfWaits ws))
     (outcomesOfWaits (waitsThere ms p))
     (each-at (λ a. Each (λ b. K (a ++ b)) (outcomesOfWaits ws)) ms p (each-without K (outcomesOfMoves ms) (outcomesOfWaits ws) h)))
-each-opened (wait line ms ws) (inr k) K L f h =
+each-opened (wait line ms ws) (one-later k) K L f h =
     each-with L (outcomesOfMoves ms) (outcomesOfWaits (opened ws k))
     (each-mono (λ a. Each (λ b. K (a ++ b)) (outcomesOfWaits ws)) (λ a. Each (λ b. L (a ++ b)) (outcomesOfWaits (opened ws k)))
     (λ a. each-opened ws k (λ b. K (a ++ b)) (λ b. L (a ++ b))

@@ -18,8 +18,8 @@ use Rattle.rules.specs.Tree.{Wait, Move, Sheet, everyMove, everyWait}
 use Rattle.rules.specs.Reading.{Result, refused, got, readSheet}
 use Rattle.rules.specs.Fair.{Fault, inWaits, holding, notApart, notElusive, firstNotApart, firstNotElusive}
 use Rattle.rules.specs.Outcomes.{outcomes, outcomeCount}
-use Rattle.rules.specs.Entries.{_>>=_, refuseIf, refuseFault, refuseUnjoined, read, fair, satisfying, accepted, judged, judge}
-use Rattle.rules.specs.Plain.{IsApart, IsElusive, AllApart, AllElusive, AllJoin, WithinSizes, IsSheet, IsFair, Given, as-accepted, as-small, as-long, as-unread, as-not-apart, as-not-elusive, as-too-many, as-not-joined}
+use Rattle.rules.specs.Entries.{_>>=_, refuseIf, refuseFault, refuseUnjoined, readText, read, fair, satisfying, accepted, judged, judge}
+use Rattle.rules.specs.Plain.{IsApart, IsElusive, AllApart, AllElusive, AllJoin, WithinSizes, IsRead, IsFair, IsSheet, Given, as-accepted, as-small, as-long, as-unread, as-not-apart, as-not-elusive, as-too-many, as-not-joined}
 use Rattle.rules.specs.declared.Board.{Board}
 use Rattle.rules.specs.declared.Player.{Player}
 use Rattle.rules.specs.Verdict.{told}
@@ -31,6 +31,8 @@ use Rattle.rules.proofs.Lists.{all-cons, nothing-in}
 use Rattle.rules.proofs.Joining.{joined→joins, joins→joined}
 use Rattle.rules.proofs.Outcomes.{count-is-length}
 use Rattle.rules.proofs.Smallest.{none-clean, clean-none, first-is, is-first}
+use Rattle.rules.proofs.Written.{reads-exactly}
+use Rattle.rules.proofs.Unread.{refused-exactly}
 use Rattle.rules.proofs.Steps.{not-refused, got-inj, then-got, refuseIf-got, refuseFault-got}
 
 -- apart and elusive, at a node
@@ -143,25 +145,25 @@ module _ (b : Board) (p : Player) where
 -- The reply, stage by stage
 module _ (w : ℕ) (t : Bytes) where
   reply-small : w < leastWorkspace → judge w t ≡ SmallWorkspace
-  unfolding judge judged accepted read refuseIf _>>=_
+  unfolding judge judged accepted read readText refuseIf _>>=_
   reply-small h = rw (lt-ltb w leastWorkspace h)
 
   reply-long : leastWorkspace ≤ w → mostBytes < length t → judge w t ≡ LongText
-  unfolding judge judged accepted read refuseIf _>>=_
+  unfolding judge judged accepted read readText refuseIf _>>=_
   reply-long h k = rw (le-ltb w leastWorkspace h, lt-ltb mostBytes (length t) k)
 
   -- within the sizes the reading's reply, or what the checks of a sheet come to
   pub accepted-read : WithinSizes w t → accepted w t ≡ (readSheet t >>= λ s. fair s >>= satisfying)
-  unfolding accepted read refuseIf _>>=_
+  unfolding accepted read readText refuseIf _>>=_
   accepted-read z = rw (le-ltb w leastWorkspace (z .enough), le-ltb mostBytes (length t) (z .short))
 
   reply-unread : (v : Verdict) → WithinSizes w t → readSheet t ≡ refused v → judge w t ≡ v
   unfolding judge judged _>>=_
   reply-unread v z e = rw (accepted-read z, e)
 
-  reply-got : (s : Sheet) → WithinSizes w t → readSheet t ≡ got s → judge w t ≡ judged (fair s >>= satisfying)
+  reply-got : (s : Sheet) → IsRead w t s → judge w t ≡ judged (fair s >>= satisfying)
   unfolding judge _>>=_
-  reply-got s z e = rw (accepted-read z, e)
+  reply-got s r = rw (accepted-read (r .sizes), reads-exactly t s .1 (r .spells))
 
 -- a sheet that was read: 10, 11 and 12
 module _ (s : Sheet) where
@@ -189,28 +191,32 @@ module _ (s : Sheet) where
   unfolding satisfying
   fault-joined r e = rw e
 
+  fair-satisfying : (w : ℕ) (t : Bytes) → IsFair w t s → judge w t ≡ judged (satisfying s)
+  unfolding _>>=_
+  fair-satisfying w t f =
+      reply-got w t s (f .read)
+      ∙ ap (λ (r : Result Sheet). judged (r >>= satisfying)) (fair-passed (apart-none s (f .apart)) (elusive-none s (f .elusive)) (f .few))
+
 -- every case of the table is what judge's reply tells
 pub given-judge : (w : ℕ) (t : Bytes) (n : Told) → Given w t n → told (judge w t) ≡ n
 unfolding judged _>>=_ firstNotApart firstNotElusive
 given-judge w t _ (as-accepted s h) =
     ap told (
-    reply-got w t s (h .sizes) (h .reads)
-    ∙ ap (λ (r : Result Sheet). judged (r >>= satisfying)) (fair-passed s (apart-none s (h .apart)) (elusive-none s (h .elusive)) (h .few))
+    fair-satisfying s w t (h .fair)
     ∙ ap judged (fault-joined s (got tt) (all-joined (s .board) (s .player) 0 (outcomes s) (h .satisfying)))
     )
 given-judge w t _ (as-small h) = ap told (reply-small w t h)
 given-judge w t _ (as-long h k) = ap told (reply-long w t h k)
-given-judge w t _ (as-unread v z e) = ap told (reply-unread w t v z e)
-given-judge w t _ (as-not-apart s f z e h) =
-    ap told (reply-got w t s z e ∙ fair-refused s _ (fair-apart s f (is-first (s .board) (λ (m : Move). m .line) notApart (everyMove s) f h)))
-given-judge w t _ (as-not-elusive s f z e a h) =
+given-judge w t _ (as-unread v z u) = ap told (reply-unread w t v z (refused-exactly t v .1 u))
+given-judge w t _ (as-not-apart s f r h) =
+    ap told (reply-got w t s r ∙ fair-refused s _ (fair-apart s f (is-first (s .board) (λ (m : Move). m .line) notApart (everyMove s) f h)))
+given-judge w t _ (as-not-elusive s f r a h) =
     ap told
-    (reply-got w t s z e ∙ fair-refused s _ (fair-elusive s f (apart-none s a) (is-first (s .board) (λ (v : Wait). v .line) notElusive (everyWait s) f h)))
-given-judge w t _ (as-too-many s z e a l m) = ap told (reply-got w t s z e ∙ fair-refused s _ (fair-many s (apart-none s a) (elusive-none s l) m))
-given-judge w t _ (as-not-joined s i z e a l m h) =
+    (reply-got w t s r ∙ fair-refused s _ (fair-elusive s f (apart-none s a) (is-first (s .board) (λ (v : Wait). v .line) notElusive (everyWait s) f h)))
+given-judge w t _ (as-too-many s r a l m) = ap told (reply-got w t s r ∙ fair-refused s _ (fair-many s (apart-none s a) (elusive-none s l) m))
+given-judge w t _ (as-not-joined s i f h) =
     ap told (
-    reply-got w t s z e
-    ∙ ap (λ (r : Result Sheet). judged (r >>= satisfying)) (fair-passed s (apart-none s a) (elusive-none s l) m)
+    fair-satisfying s w t f
     ∙ ap judged
     (fault-joined s (refused (NotJoined (0 + i)))
     (first-unjoined (s .board) (s .player) 0 (outcomes s) i (omega (arith, count-is-length s, h .is-number)) (h .not-joined) (h .joined-before)))
@@ -224,42 +230,43 @@ given-judge w t _ (as-not-joined s i z e a l m h) =
 abbrev GivenAs : ℕ → Bytes → Verdict → Type 0
 GivenAs w t v = Given w t (told v)
 
-module _ (w : ℕ) (t : Bytes) (z : WithinSizes w t) (s : Sheet) (e : readSheet t ≡ got s) where
-  joined-given : AllApart s → AllElusive s → outcomeCount s ≤ mostOutcomes → (r : Result (Unit {0})) → Walked (s .board) (s .player) 0 (outcomes s) r
-      → GivenAs w t (judged (r >>= λ u. got s))
+module _ (w : ℕ) (t : Bytes) (s : Sheet) (r : IsRead w t s) where
+  joined-given : IsFair w t s → (u : Result (Unit {0})) → Walked (s .board) (s .player) 0 (outcomes s) u → GivenAs w t (judged (u >>= λ x. got s))
   unfolding judged _>>=_
-  joined-given a l m _ (all h) = as-accepted s (record { sizes = z; reads = e; apart = a; elusive = l; few = m; satisfying = h })
-  joined-given a l m _ (first i k not-so so) =
+  joined-given f _ (all h) = as-accepted s (record { fair = f; satisfying = h })
+  joined-given f _ (first i k not-so so) =
       let n : 0 + i ≡ i = omega arith in
-      rw n (as-not-joined s i z e a l m (record { is-number = omega (arith, count-is-length s); not-joined = not-so; joined-before = so }))
+      rw n (as-not-joined s i f (record { is-number = omega (arith, count-is-length s); not-joined = not-so; joined-before = so }))
 
   count-given : AllApart s → AllElusive s → (b : Bool) → ltb mostOutcomes (outcomeCount s) ≡ b → GivenAs w t (judged (fair s >>= satisfying))
   unfolding _>>=_
   count-given a l true q =
       subst⁻¹ (GivenAs w t) (fair-refused s _ (fair-many s (apart-none s a) (elusive-none s l) (ltb-true mostOutcomes (outcomeCount s) q)))
-      (as-too-many s z e a l (ltb-true mostOutcomes (outcomeCount s) q))
+      (as-too-many s r a l (ltb-true mostOutcomes (outcomeCount s) q))
   count-given a l false q =
       let m = ltb-false mostOutcomes (outcomeCount s) q in
-      subst⁻¹ (λ (r : Result Sheet). GivenAs w t (judged (r >>= satisfying))) (fair-passed s (apart-none s a) (elusive-none s l) m)
-      (subst⁻¹ (λ (r : Result Sheet). GivenAs w t (judged r)) (fault-joined s (refuseUnjoined (s .board) (s .player) 0 (outcomes s)) refl)
-      (joined-given a l m (refuseUnjoined (s .board) (s .player) 0 (outcomes s)) (walked (s .board) (s .player) 0 (outcomes s))))
+      subst⁻¹ (λ (u : Result Sheet). GivenAs w t (judged (u >>= satisfying))) (fair-passed s (apart-none s a) (elusive-none s l) m)
+      (subst⁻¹ (λ (u : Result Sheet). GivenAs w t (judged u)) (fault-joined s (refuseUnjoined (s .board) (s .player) 0 (outcomes s)) refl)
+      (joined-given (record { read = r; apart = a; elusive = l; few = m }) (refuseUnjoined (s .board) (s .player) 0 (outcomes s)) (walked (s .board) (s .player) 0 (outcomes s))))
 
   elusive-given : AllApart s → (f : Option Fault) → firstNotElusive s ≡ f → GivenAs w t (judged (fair s >>= satisfying))
   unfolding firstNotElusive
   elusive-given a none q = count-given a (none-elusive s q) (ltb mostOutcomes (outcomeCount s)) refl
   elusive-given a (some f) q =
       subst⁻¹ (GivenAs w t) (fair-refused s _ (fair-elusive s f (apart-none s a) q))
-      (as-not-elusive s f z e a (first-is (s .board) (λ (v : Wait). v .line) notElusive (everyWait s) f q))
+      (as-not-elusive s f r a (first-is (s .board) (λ (v : Wait). v .line) notElusive (everyWait s) f q))
 
   apart-given : (f : Option Fault) → firstNotApart s ≡ f → GivenAs w t (judged (fair s >>= satisfying))
   unfolding firstNotApart
   apart-given none q = elusive-given (none-apart s q) (firstNotElusive s) refl
   apart-given (some f) q =
-      subst⁻¹ (GivenAs w t) (fair-refused s _ (fair-apart s f q)) (as-not-apart s f z e (first-is (s .board) (λ (m : Move). m .line) notApart (everyMove s) f q))
+      subst⁻¹ (GivenAs w t) (fair-refused s _ (fair-apart s f q)) (as-not-apart s f r (first-is (s .board) (λ (m : Move). m .line) notApart (everyMove s) f q))
 
-read-given : (w : ℕ) (t : Bytes) → WithinSizes w t → (r : Result Sheet) → readSheet t ≡ r → GivenAs w t (judge w t)
-read-given w t z (refused v) e = subst⁻¹ (GivenAs w t) (reply-unread w t v z e) (as-unread v z e)
-read-given w t z (got s) e = subst⁻¹ (GivenAs w t) (reply-got w t s z e) (apart-given w t z s e (firstNotApart s) refl)
+read-given : (w : ℕ) (t : Bytes) → WithinSizes w t → (u : Result Sheet) → readSheet t ≡ u → GivenAs w t (judge w t)
+read-given w t z (refused v) e = subst⁻¹ (GivenAs w t) (reply-unread w t v z e) (as-unread v z (refused-exactly t v .0 e))
+read-given w t z (got s) e =
+    let r : IsRead w t s = record { sizes = z; spells = reads-exactly t s .0 e } in
+    subst⁻¹ (GivenAs w t) (reply-got w t s r) (apart-given w t s r (firstNotApart s) refl)
 
 pub judge-given : (w : ℕ) (t : Bytes) → Given w t (told (judge w t))
 judge-given w t = sized (ltb w leastWorkspace) refl
@@ -287,7 +294,7 @@ walked-all b p n os _ (all h) u e = h
 walked-all b p n os _ (first i k not-so so) u e = absurd (not-refused e)
 
 fair→ : (w : ℕ) (t : Bytes) (s : Sheet) → (read w t >>= fair) ≡ got s → IsFair w t s
-unfolding read fair
+unfolding read readText fair
 fair→ w t s e =
     let a = then-got (read w t) fair s e in
     let b = then-got (refuseIf (ltb w leastWorkspace) SmallWorkspace) _ (a .0) (a .1) in
@@ -297,17 +304,20 @@ fair→ w t s e =
     let g = then-got (refuseIf (ltb mostOutcomes (outcomeCount (a .0))) TooManyOutcomes) _ s (f .2) in
     let same : a .0 ≡ s = got-inj (g .2) in
     record {
-      sizes = record { enough = ltb-false w leastWorkspace (refuseIf-got _ _ _ (b .1)); short = ltb-false mostBytes (length t) (refuseIf-got _ _ _ (c .1)) };
-      reads = c .2 ∙ ap got same;
+      read =
+          record {
+            sizes = record { enough = ltb-false w leastWorkspace (refuseIf-got _ _ _ (b .1)); short = ltb-false mostBytes (length t) (refuseIf-got _ _ _ (c .1)) };
+            spells = reads-exactly t s .0 (c .2 ∙ ap got same);
+          };
       apart = none-apart s (subst (λ (z : Sheet). firstNotApart z ≡ none) same (refuseFault-got _ _ _ (d .1)));
       elusive = none-elusive s (subst (λ (z : Sheet). firstNotElusive z ≡ none) same (refuseFault-got _ _ _ (f .1)));
       few = subst (λ (z : Sheet). outcomeCount z ≤ mostOutcomes) same (ltb-false mostOutcomes (outcomeCount (a .0)) (refuseIf-got _ _ _ (g .1)));
     }
 
 →fair : (w : ℕ) (t : Bytes) (s : Sheet) → IsFair w t s → (read w t >>= fair) ≡ got s
-unfolding read refuseIf _>>=_
+unfolding read readText refuseIf _>>=_
 →fair w t s h =
-    rw (le-ltb w leastWorkspace (h .sizes .enough), le-ltb mostBytes (length t) (h .sizes .short), h .reads)
+    rw (le-ltb w leastWorkspace (h .read .sizes .enough), le-ltb mostBytes (length t) (h .read .sizes .short), reads-exactly t s .1 (h .read .spells))
     (fair-passed s (apart-none s (h .apart)) (elusive-none s (h .elusive)) (h .few))
 
 -- what outcome asks of a sheet
@@ -331,11 +341,7 @@ accepted→ w t s e =
     let same : a .0 ≡ s = got-inj (b .2) in
     let f = fair→ w t s (a .1 ∙ ap got same) in
     record {
-      sizes = f .sizes;
-      reads = f .reads;
-      apart = f .apart;
-      elusive = f .elusive;
-      few = f .few;
+      fair = f;
       satisfying =
           subst (λ (z : Sheet). AllJoin z) same
           (walked-all (a .0 .board) (a .0 .player) 0 (outcomes (a .0)) _ (walked (a .0 .board) (a .0 .player) 0 (outcomes (a .0))) (b .0) (b .1));
@@ -350,8 +356,7 @@ fair-accepted w t s f r e = accepted-fair w t ∙ ap (λ (z : Result Sheet). z >
 →accepted : (w : ℕ) (t : Bytes) (s : Sheet) → IsSheet w t s → accepted w t ≡ got s
 unfolding _>>=_
 →accepted w t s h =
-    fair-accepted w t s (record { sizes = h .sizes; reads = h .reads; apart = h .apart; elusive = h .elusive; few = h .few }) (got tt)
-    (all-joined (s .board) (s .player) 0 (outcomes s) (h .satisfying))
+    fair-accepted w t s (h .fair) (got tt) (all-joined (s .board) (s .player) 0 (outcomes s) (h .satisfying))
 
 pub accepted-exactly : (w : ℕ) (t : Bytes) (s : Sheet) → (accepted w t ≡ got s) ↔ IsSheet w t s
 accepted-exactly w t s = (accepted→ w t s, →accepted w t s)

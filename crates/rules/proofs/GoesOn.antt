@@ -28,7 +28,7 @@ use Rattle.rules.specs.declared.Verdict.the-variants.{AfterOver, NoSuchC
 use Rattle.rules.proofs.Tests.{true-of, false-of, decide, both}
 use Rattle.rules.proofs.Steps.{not-refused}
 use Rattle.rules.proofs.Given.{accepted-exactly, accepted-fair, fair-exactly, fair-judged, judge-given, given-judge, given-exactly}
-use Rattle.rules.proofs.Refusals.{reading-refusals, given-zero}
+use Rattle.rules.proofs.Refusals.{unread-of, given-zero}
 use Rattle.rules.proofs.Cover.{ruled-rounds, ruled-played}
 
 -- One move: refused for its reason, or answered
@@ -179,11 +179,11 @@ module _ (w : ℕ) (t : Bytes) where
   given-unjoined _ e (as-accepted s h) = absurd (omega (arith, e))
   given-unjoined _ e (as-small h) = absurd (omega (arith, e))
   given-unjoined _ e (as-long h l) = absurd (omega (arith, e))
-  given-unjoined _ e (as-unread v h r) = absurd (omega (arith, e, reading-refusals t v r .most))
-  given-unjoined _ e (as-not-apart s f h r i) = absurd (omega (arith, e))
-  given-unjoined _ e (as-not-elusive s f h r a i) = absurd (omega (arith, e))
-  given-unjoined _ e (as-too-many s h r a k l) = absurd (omega (arith, e))
-  given-unjoined _ e (as-not-joined s i h r a k l f) = (s, record { sizes = h; reads = r; apart = a; elusive = k; few = l })
+  given-unjoined _ e (as-unread v h u) = absurd (omega (arith, e, unread-of u .most))
+  given-unjoined _ e (as-not-apart s f r i) = absurd (omega (arith, e))
+  given-unjoined _ e (as-not-elusive s f r a i) = absurd (omega (arith, e))
+  given-unjoined _ e (as-too-many s r a k l) = absurd (omega (arith, e))
+  given-unjoined _ e (as-not-joined s i f h) = (s, f)
 
   -- where the sheet is not fair, judge gives the same refusal
   unfair-judged : (v : Verdict) → (read w t >>= fair) ≡ refused v → judge w t ≡ v
@@ -197,11 +197,11 @@ module _ (w : ℕ) (t : Bytes) where
 
 module _ (w : ℕ) (t : Bytes) (i room : ℕ) where
   -- what outcome does with a fair sheet
-  abbrev listing : Sheet → Result (List ℕ)
+  abbrev pub listing : Sheet → Result (List ℕ)
   listing s =
       refuseIf (not (ltb i (outcomeCount s))) NoSuchOutcome >>= λ u. refuseIf (ltb room (length (outcomeCells s i))) ShortRoom >>= λ u. got (outcomeCells s i)
 
-  outcome-fair : outcome w t i room ≡ named (read w t >>= fair >>= listing)
+  pub outcome-fair : outcome w t i room ≡ named (read w t >>= fair >>= listing)
   unfolding outcome _>>=_
   outcome-fair = go (read w t) refl
     where

@@ -1,19 +1,20 @@
 -- What meets the hypotheses of the theorems: the sample P1, and a game on it; P3, with a wait of one move.
 use mathlib.Core.Path.{refl}
-use mathlib.Core.Logic.{inl, inr}
 use mathlib.Core.List.{[], _∷_}
 use Rattle.rules.specs.Sizes.{leastWorkspace}
 use Rattle.rules.specs.Words.{at-head}
 use Rattle.rules.specs.Board.{smallest}
 use Rattle.rules.specs.Tree.{noWaits, noMoves, move, everyWait, waitsOfWaits}
+use Rattle.rules.specs.Choice.{the-first, one-later}
 use Rattle.rules.specs.Answering.{start, answered, next, isEmpty}
 use Rattle.rules.specs.Plain.{IsSheet, WellRead, IsElusive}
-use Rattle.rules.specs.Promise.{Ruled, no-move, one-move, Chosen, no-round, round, MovesToEmpty}
+use Rattle.rules.specs.Promise.{Ruled, no-move, one-move, MovesToEmpty}
+use Rattle.rules.specs.Holder.{Chosen, no-round, round}
 use Rattle.rules.specs.Samples.{sheet, P1, P3, p1, p3}
 use Rattle.rules.specs.Computed.{p1-accepted, p1-opens, p3-read}
-use Rattle.rules.proofs.WellRead.{well-read}
+use Rattle.rules.proofs.Written.{reads-exactly}
 use Rattle.rules.proofs.Given.{accepted-exactly}
-use Rattle.rules.proofs.Cover.{demand-3-opposed}
+use Rattle.rules.proofs.Cover.{demand-3}
 use Rattle.rules.proofs.OneMove.{one-move-faulty}
 
 -- P1 is a sheet by document 01, and well read
@@ -21,21 +22,21 @@ pub p1-sheet : IsSheet leastWorkspace (sheet P1) p1
 p1-sheet = accepted-exactly leastWorkspace (sheet P1) p1 .0 p1-accepted
 
 pub p1-well : WellRead p1
-p1-well = well-read (sheet P1) p1 (p1-sheet .reads)
+p1-well = p1-sheet .fair .read .spells .well
 
 -- a game of one round by the rule, and one by choice: the opponent begins with 3
 pub p1-ruled : Ruled p1 (start p1) (3 ∷ []) (answered (start p1) 3)
 p1-ruled = one-move (p1-opens .0) (p1-opens .1) no-move
 
-pub p1-chosen : Chosen p1 (start p1) 1 (unfold start in next (start p1) 3 (inl (inr (inl tt))))
+pub p1-chosen : Chosen p1 (start p1) 1 (unfold start in next (start p1) 3 (the-first (one-later (the-first tt))))
 unfolding start
-p1-chosen = round 3 (inl (inr (inl tt))) (p1-opens .0) (p1-opens .1) (p1-opens .2) no-round
+p1-chosen = round 3 (the-first (one-later (the-first tt))) (p1-opens .0) (p1-opens .1) (p1-opens .2) no-round
 
 -- an opponent who moves to an empty cell until the sides are joined
 pub p1-opponent : MovesToEmpty p1 (λ g. smallest (p1 .board) (isEmpty p1 g))
-p1-opponent = demand-3-opposed leastWorkspace (sheet P1) p1 p1-accepted
+p1-opponent = demand-3 leastWorkspace (sheet P1) p1 p1-accepted .has-opponent
 
 -- P3 is read, and the one move of its wait is its fault
 pub p3-faulty : IsElusive (p3 .board) (record { line = 3; moves = move 4 3 noWaits noMoves }) → ⊥
 unfolding everyWait waitsOfWaits
-p3-faulty = one-move-faulty p3 (well-read (sheet P3) p3 p3-read) _ at-head 4 3 noWaits refl
+p3-faulty = one-move-faulty p3 (reads-exactly (sheet P3) p3 .0 p3-read .well) _ at-head 4 3 noWaits refl

@@ -1,7 +1,7 @@
 -- What a choice does to the open waits of a fair tree.
 use mathlib.Core.Path.{_≡_, refl}
 use mathlib.Core.Bool.{not}
-use mathlib.Core.Logic.{_⊎_, inl, inr, ⊎-elim}
+use mathlib.Core.Logic.{⊎-elim}
 use Prim.Native.Nat.{ℕ, suc, _+_, _≤_}
 use native.Mathlib.Omega.{arith}
 use lib.Dec.{T, eqb, eqb-refl, not-T, T-not}
@@ -9,7 +9,8 @@ use lib.ListN.{length, length-append}
 use Rattle.rules.specs.Words.{oneIf}
 use Rattle.rules.specs.Tree.{Waits, noWaits, wait, Moves, noMoves, move, waitsOfWaits, waitsOfMoves}
 use Rattle.rules.specs.Fair.{inWaits, inMoves, inMove, holding, inEvery}
-use Rattle.rules.specs.Answering.{PlaceIn, cellThere, waitsThere, Choice, taken, andThen, opened, waitHolds, moveHolds}
+use Rattle.rules.specs.Choice.{the-first, one-later, PlaceIn, cellThere, waitsThere, Choice, taken, andThen, opened}
+use Rattle.rules.specs.Holder.{waitHolds, moveHolds}
 use Rattle.rules.proofs.Tests.{decide, left, right, cases, nor-left, nor-right, one-yes, one-no}
 
 -- apart and elusive for every number, here and below
@@ -78,26 +79,26 @@ hold-then x (wait line ms vs) ws = omega (arith, hold-then x vs ws)
 pub at-in : (x : ℕ) (ms : Moves) (p : PlaceIn ms) → T (inMove (cellThere ms p) (waitsThere ms p) x) → T (inMoves ms x)
 unfolding inMove inMoves
 at-in x noMoves p h = absurd p
-at-in x (move line c vs ms) (inl u) h = left (inMove c vs x) (inMoves ms x) h
-at-in x (move line c vs ms) (inr p) h = right (inMove c vs x) (inMoves ms x) (at-in x ms p h)
+at-in x (move line c vs ms) (the-first u) h = left (inMove c vs x) (inMoves ms x) h
+at-in x (move line c vs ms) (one-later p) h = right (inMove c vs x) (inMoves ms x) (at-in x ms p h)
 
 apart-at : (ms : Moves) → FairMoves ms → (p : PlaceIn ms) → Apart (cellThere ms p) (waitsThere ms p)
 unfolding FairMoves
 apart-at noMoves f p = absurd p
-apart-at (move line c vs ms) f (inl u) = f .0
-apart-at (move line c vs ms) f (inr p) = apart-at ms (f .2) p
+apart-at (move line c vs ms) f (the-first u) = f .0
+apart-at (move line c vs ms) f (one-later p) = apart-at ms (f .2) p
 
 fair-at : (ms : Moves) → FairMoves ms → (p : PlaceIn ms) → FairWaits (waitsThere ms p)
 unfolding FairMoves
 fair-at noMoves f p = absurd p
-fair-at (move line c vs ms) f (inl u) = f .1
-fair-at (move line c vs ms) f (inr p) = fair-at ms (f .2) p
+fair-at (move line c vs ms) f (the-first u) = f .1
+fair-at (move line c vs ms) f (one-later p) = fair-at ms (f .2) p
 
 count-at : (ms : Moves) (p : PlaceIn ms) → waitsIn (waitsThere ms p) ≤ waitsUnder ms
 unfolding waitsUnder
 count-at noMoves p = absurd p
-count-at (move line c vs ms) (inl u) = omega arith
-count-at (move line c vs ms) (inr p) = omega (arith, count-at ms p)
+count-at (move line c vs ms) (the-first u) = omega arith
+count-at (move line c vs ms) (one-later p) = omega (arith, count-at ms p)
 
 -- a cell is in at most one of the waits under a move, and only if it is in the move's wait
 under-hold : (x : ℕ) (ms : Moves) → FairMoves ms → (p : PlaceIn ms) → holding (waitsThere ms p) x ≤ oneIf (inMoves ms x)
@@ -127,8 +128,8 @@ fair-then (wait line ms vs) ws f g = (f .0, f .1, fair-then vs ws (f .2) g)
 pub fair-opened : (ws : Waits) → FairWaits ws → (k : Choice ws) → FairWaits (opened ws k)
 unfolding FairWaits
 fair-opened noWaits f k = absurd k
-fair-opened (wait line ms ws) f (inl p) = fair-then (waitsThere ms p) ws (fair-at ms (f .1) p) (f .2)
-fair-opened (wait line ms ws) f (inr k) = (f .0, f .1, fair-opened ws (f .2) k)
+fair-opened (wait line ms ws) f (the-first p) = fair-then (waitsThere ms p) ws (fair-at ms (f .1) p) (f .2)
+fair-opened (wait line ms ws) f (one-later k) = (f .0, f .1, fair-opened ws (f .2) k)
 
 count-then : (vs ws : Waits) → waitsIn (andThen vs ws) ≡ waitsIn vs + waitsIn ws
 unfolding waitsIn
@@ -138,54 +139,54 @@ count-then (wait line ms vs) ws = omega (arith, count-then vs ws)
 pub count-opened : (ws : Waits) (k : Choice ws) → suc (waitsIn (opened ws k)) ≤ waitsIn ws
 unfolding waitsIn
 count-opened noWaits k = absurd k
-count-opened (wait line ms ws) (inl p) = omega (arith, count-then (waitsThere ms p) ws, count-at ms p)
-count-opened (wait line ms ws) (inr k) = omega (arith, count-opened ws k)
+count-opened (wait line ms ws) (the-first p) = omega (arith, count-then (waitsThere ms p) ws, count-at ms p)
+count-opened (wait line ms ws) (one-later k) = omega (arith, count-opened ws k)
 
 pub hold-opened : (x : ℕ) (ws : Waits) → FairWaits ws → (k : Choice ws) → holding (opened ws k) x ≤ holding ws x
 unfolding FairWaits holding
 hold-opened x noWaits f k = absurd k
-hold-opened x (wait line ms ws) f (inl p) = omega (arith, hold-then x (waitsThere ms p) ws, under-hold x ms (f .1) p)
-hold-opened x (wait line ms ws) f (inr k) = omega (arith, hold-opened x ws (f .2) k)
+hold-opened x (wait line ms ws) f (the-first p) = omega (arith, hold-then x (waitsThere ms p) ws, under-hold x ms (f .1) p)
+hold-opened x (wait line ms ws) f (one-later k) = omega (arith, hold-opened x ws (f .2) k)
 
 pub taken-hold : (ws : Waits) (k : Choice ws) → 1 ≤ holding ws (taken ws k)
 unfolding holding
 taken-hold noWaits k = absurd k
-taken-hold (wait line ms ws) (inl p) = omega (arith, one-yes (inMoves ms (cellThere ms p)) (cell-in ms p))
-taken-hold (wait line ms ws) (inr k) = omega (arith, taken-hold ws k)
+taken-hold (wait line ms ws) (the-first p) = omega (arith, one-yes (inMoves ms (cellThere ms p)) (cell-in ms p))
+taken-hold (wait line ms ws) (one-later k) = omega (arith, taken-hold ws k)
 
 pub taken-opened : (ws : Waits) → FairWaits ws → (k : Choice ws) → holding ws (taken ws k) ≤ 1 → holding (opened ws k) (taken ws k) ≡ 0
 unfolding FairWaits holding
 taken-opened noWaits f k h = absurd k
-taken-opened (wait line ms ws) f (inl p) h =
+taken-opened (wait line ms ws) f (the-first p) h =
     omega (
       arith,
       hold-then (cellThere ms p) (waitsThere ms p) ws,
       one-yes (inMoves ms (cellThere ms p)) (cell-in ms p),
       out-hold (cellThere ms p) (waitsThere ms p) ((apart-at ms (f .1) p) .own),
     )
-taken-opened (wait line ms ws) f (inr k) h = omega (arith, taken-hold ws k, taken-opened ws (f .2) k (omega arith))
+taken-opened (wait line ms ws) f (one-later k) h = omega (arith, taken-hold ws k, taken-opened ws (f .2) k (omega arith))
 
 pub wait-in : (x : ℕ) (ws : Waits) (k : Choice ws) → T (waitHolds x ws k) → T (inWaits ws x)
 unfolding inWaits
 wait-in x noWaits k h = absurd k
-wait-in x (wait line ms ws) (inl p) h = left (inMoves ms x) (inWaits ws x) h
-wait-in x (wait line ms ws) (inr k) h = right (inMoves ms x) (inWaits ws x) (wait-in x ws k h)
+wait-in x (wait line ms ws) (the-first p) h = left (inMoves ms x) (inWaits ws x) h
+wait-in x (wait line ms ws) (one-later k) h = right (inMoves ms x) (inWaits ws x) (wait-in x ws k h)
 
 -- the wait that holds x is answered by a move that does not: then no open wait holds x
 pub dodged : (x : ℕ) (ws : Waits) (k : Choice ws) → holding ws x ≤ 1 → T (not (moveHolds x ws k)) → T (waitHolds x ws k) → holding (opened ws k) x ≡ 0
 unfolding holding inMove
 dodged x noWaits k h n t = absurd k
-dodged x (wait line ms ws) (inl p) h n t =
+dodged x (wait line ms ws) (the-first p) h n t =
     omega (
       arith,
       hold-then x (waitsThere ms p) ws,
       one-yes (inMoves ms x) t,
       out-hold x (waitsThere ms p) (nor-right (eqb x (cellThere ms p)) (inWaits (waitsThere ms p) x) n),
     )
-dodged x (wait line ms ws) (inr k) h n t = omega (arith, in-hold x ws (wait-in x ws k t), dodged x ws k (omega arith) n t)
+dodged x (wait line ms ws) (one-later k) h n t = omega (arith, in-hold x ws (wait-in x ws k t), dodged x ws k (omega arith) n t)
 
 pub taken-not : (x : ℕ) (ws : Waits) (k : Choice ws) → T (not (moveHolds x ws k)) → T (not (eqb x (taken ws k)))
 unfolding inMove
 taken-not x noWaits k n = absurd k
-taken-not x (wait line ms ws) (inl p) n = nor-left (eqb x (cellThere ms p)) (inWaits (waitsThere ms p) x) n
-taken-not x (wait line ms ws) (inr k) n = taken-not x ws k n
+taken-not x (wait line ms ws) (the-first p) n = nor-left (eqb x (cellThere ms p)) (inWaits (waitsThere ms p) x) n
+taken-not x (wait line ms ws) (one-later k) n = taken-not x ws k n

@@ -8,33 +8,24 @@ use mathlib.Core.List.{List, [], _∷_}
 use lib.Dec.{ltb}
 use lib.ListN.{length, take, getD, length-append}
 use lib.Seq.{length-take-le}
-use Rattle.rules.specs.Sizes.{largest, mostBytes, leastWorkspace, mostNodes, mostOutcomes}
+use Rattle.rules.specs.Sizes.{largest, mostNodes}
 use Rattle.rules.specs.Words.{upTo, among}
 use Rattle.rules.specs.Text.{Bytes}
 use Rattle.rules.specs.Board.{cells, listed}
 use Rattle.rules.specs.Tree.{Sheet, waitCount}
 use Rattle.rules.specs.Plain.{WellRead}
-use Rattle.rules.specs.Fair.{firstNotApart, firstNotElusive}
 use Rattle.rules.specs.Outcomes.{outcomes, outcomeCount}
 use Rattle.rules.specs.Reading.{Result, refused, got}
 use Rattle.rules.specs.Answering.{start}
-use Rattle.rules.specs.Entries.{_>>=_, refuseIf, refuseFault, refuseUnjoined, read, fair, satisfying, accepted, Rounds, rounds, PlayReply, refusedPlay, playedOut, playOn, play, outcomeCells, named, outcome, PlayKept, playShown, OutcomeKept, outcomeShown}
+use Rattle.rules.specs.Entries.{_>>=_, refuseIf, read, fair, accepted, Rounds, rounds, PlayReply, refusedPlay, playedOut, playOn, play, outcomeCells, named, outcome, PlayKept, playShown, OutcomeKept, outcomeShown}
 use Rattle.rules.specs.declared.Played.{Played}
 use Rattle.rules.specs.declared.Named.{Named}
-use Rattle.rules.specs.declared.Verdict.the-variants.{SmallWorkspace, LongText, NotApart, NotElusive, TooManyOutcomes, NoSuchOutcome, ShortRoom}
+use Rattle.rules.specs.declared.Verdict.the-variants.{NoSuchOutcome, ShortRoom}
 use Rattle.rules.proofs.Lists.{keep-split}
-use Rattle.rules.proofs.Steps.{got-inj, then-got, refuseIf-got}
-use Rattle.rules.proofs.WellRead.{well-read}
-use Rattle.rules.proofs.Cover.{demand-3, demand-3-played}
-use Rattle.rules.proofs.GoesOn.{RoundsSeen, stops, plays, rounds-seen}
-
--- a sheet that was read is well read
-read-well : (w : ℕ) (t : Bytes) (s : Sheet) → read w t ≡ got s → WellRead s
-unfolding read
-read-well w t s e =
-    let a = then-got (refuseIf (ltb w leastWorkspace) SmallWorkspace) _ s e in
-    let b = then-got (refuseIf (ltb mostBytes (length t)) LongText) _ s (a .2) in
-    well-read t s (b .2)
+use Rattle.rules.proofs.Steps.{got-inj, then-got}
+use Rattle.rules.proofs.Given.{accepted-exactly, fair-exactly}
+use Rattle.rules.proofs.Cover.{demand-3}
+use Rattle.rules.proofs.GoesOn.{RoundsSeen, stops, plays, rounds-seen, outcome-fair}
 
 -- no list of cells of the board is longer than the board
 upTo-length : (n : ℕ) → length (upTo n) ≡ n
@@ -55,25 +46,17 @@ unfolding named
 few-named (refused v) h = omega arith
 few-named (got xs) h = h xs refl
 
-fair-same : (s z : Sheet) → fair s ≡ got z → s ≡ z
-unfolding fair
-fair-same s z e =
-    let a = then-got (refuseFault NotApart (firstNotApart s)) _ z e in
-    let b = then-got (refuseFault NotElusive (firstNotElusive s)) _ z (a .2) in
-    let c = then-got (refuseIf (ltb mostOutcomes (outcomeCount s)) TooManyOutcomes) _ z (b .2) in
-    got-inj (c .2)
-
 few-cells : (w : ℕ) (t : Bytes) (i room : ℕ) → length (outcome w t i room .cells) ≤ largest * largest
-unfolding outcome outcomeCells
+unfolding outcomeCells
 few-cells w t i room =
-    few-named _ λ xs e.
-    let a = then-got (read w t) _ xs e in
-    let b = then-got (fair (a .0)) _ xs (a .2) in
-    let s = b .0 in
-    let c = then-got (refuseIf (not (ltb i (outcomeCount s))) NoSuchOutcome) _ xs (b .2) in
+    rw (outcome-fair w t i room)
+    (few-named _ λ xs e.
+    let a = then-got (read w t >>= fair) _ xs e in
+    let s = a .0 in
+    let c = then-got (refuseIf (not (ltb i (outcomeCount s))) NoSuchOutcome) _ xs (a .2) in
     let d = then-got (refuseIf (ltb room (length (outcomeCells s i))) ShortRoom) _ xs (c .2) in
-    let few = few-listed s (among (getD (outcomes s) i [])) (subst WellRead (fair-same (a .0) s (b .1)) (read-well w t (a .0) (a .1))) in
-    omega (arith, ap length (got-inj (d .2)), few)
+    let few = few-listed s (among (getD (outcomes s) i [])) (fair-exactly w t s .0 (a .1) .read .spells .well) in
+    omega (arith, ap length (got-inj (d .2)), few))
 
 -- play has few rounds
 record FewRounds (r : PlayReply) : Type 0 where
@@ -81,23 +64,16 @@ record FewRounds (r : PlayReply) : Type 0 where
   few-answers : length (r .answers) ≤ mostNodes
 
 few-waits : (w : ℕ) (t : Bytes) (s : Sheet) → accepted w t ≡ got s → waitCount s ≤ mostNodes
-unfolding accepted satisfying
-few-waits w t s e =
-    let a = then-got (read w t) _ s e in
-    let r = read-well w t (a .0) (a .1) in
-    let b = then-got (fair (a .0)) _ s (a .2) in
-    let c = then-got (refuseUnjoined (b .0 .board) (b .0 .player) 0 (outcomes (b .0))) _ s (b .2) in
-    let f : WellRead s = subst WellRead (fair-same (a .0) (b .0) (b .1) ∙ got-inj (c .2)) r in
-    omega (arith, f .few-nodes)
+few-waits w t s e = omega (arith, accepted-exactly w t s .0 e .fair .read .spells .well .few-nodes)
 
 few-out : (w : ℕ) (t : Bytes) (s : Sheet) (xs : List ℕ) → accepted w t ≡ got s → (r : Rounds) → RoundsSeen s (start s) 1 xs r → FewRounds (playedOut s r)
 unfolding playedOut refusedPlay
 few-out w t s xs e _ (stops k g v at small is before why) =
-    let n = demand-3 w t s e (take k xs) g before .0 .within in
+    let n = demand-3 w t s e .within (take k xs) g before in
     record { few-places = omega (arith, is, n, length-take-le k xs (omega (arith, small)), few-waits w t s e); few-answers = omega arith }
 few-out w t s xs e _ (plays g r) =
-    let n = demand-3 w t s e xs g r .0 .within in
-    let m = demand-3-played w t s e xs g r (length xs) (omega arith) .one-each in
+    let n = demand-3 w t s e .within xs g r in
+    let m = demand-3 w t s e .plays xs g r (length xs) (omega arith) .one-each in
     record { few-places = omega arith; few-answers = omega (arith, m, n, few-waits w t s e) }
 
 few-rounds : (w : ℕ) (t : Bytes) (xs : List ℕ) (room : ℕ) → FewRounds (play w t xs room)

@@ -2,8 +2,7 @@
 use mathlib.Core.Path.{_≡_, refl, subst⁻¹}
 use mathlib.Core.Bool.{Bool, true, false}
 use mathlib.Core.Option.{Option, none, some, IsSome}
-use lib.Dec.{T}
-use Rattle.rules.specs.Text.{Bytes, Reader, bind, guard}
+use Rattle.rules.specs.Text.{Bytes, Reader, bind}
 use Rattle.rules.specs.Reading.{Result, refused, got, Spot, Reading, go}
 use Rattle.rules.specs.Fair.{Fault}
 use Rattle.rules.specs.Entries.{_>>=_, refuseIf, refuseFault}
@@ -32,11 +31,6 @@ pub bind-some : {A B : Type 0} (r : Option (A × Bytes)) (f : A → Reader B) (y
 unfolding bind
 bind-some none f y e = absurd (none≢some e)
 bind-some (some x) f y e = (x, refl, e)
-
-pub guard-some : (t : Bool) (s : Bytes) (y : Unit {0} × Bytes) → guard t s ≡ some y → T t
-unfolding guard
-guard-some true s y e = tt
-guard-some false s y e = absurd (none≢some e)
 
 pub go-got : {X Y : Type 0} (r : Result (X × Spot)) (f : X → Reading Y) (y : Y × Spot) → go r f ≡ got y
     → (x : X × Spot) × (r ≡ got x) × (f (x .0) (x .1) ≡ got y)

@@ -1,8 +1,8 @@
 -- Every text that reads gives a sheet that is `WellRead`.
-use mathlib.Core.Path.{_≡_, refl, sym, ap, ap₂, subst⁻¹, _∙_}
+use mathlib.Core.Path.{_≡_, refl, sym, ap, ap₂, subst, subst⁻¹, _∙_}
 use mathlib.Core.Logic.{_≢_, _⊎_, inl, inr}
 use Prim.Native.Nat.{ℕ, zero, suc, _+_, _-_, _≤_}
-use mathlib.Core.List.{List, [], _∷_, _++_}
+use mathlib.Core.List.{List, [], _∷_, _++_, append-assoc, append-nil}
 use mathlib.Core.Option.{Option, none, some}
 use lib.Dec.{T}
 use lib.ListN.{length, length-append}
@@ -13,12 +13,15 @@ use Rattle.rules.specs.Board.{isCell}
 use Rattle.rules.specs.Text.{Bytes, _orElse_}
 use Rattle.rules.specs.Lines.{Header, headerLine, moveLine, dashLine}
 use Rattle.rules.specs.Tree.{Waits, noWaits, wait, Moves, noMoves, move, Wait, Move, Sheet, movesOfWaits, movesOfMoves, waitsOfWaits, waitsOfMoves, everyMove, everyWait, moveCount, waitCount}
+use Rattle.rules.specs.Written.{written}
 use Rattle.rules.specs.Reading.{Result, refused, got, Spot, readMove, ended, readBody, headed, readSheet}
+use Rattle.rules.specs.Unread.{BoardSize}
 use Rattle.rules.specs.Plain.{linesOfWaits, linesOfMoves, linesOf, upFrom, depthOfWaits, depthOfMoves, WellRead}
 use Rattle.rules.specs.declared.Board.{Board}
 use Rattle.rules.proofs.Lists.{in-both}
 use Rattle.rules.proofs.Steps.{not-refused, got-inj}
-use Rattle.rules.proofs.Reading.{BoardSize, header-size, nodesInWaits, nodesInMoves, ReadWaits, ReadMoves, move-read, cell-read}
+use Rattle.rules.proofs.Lines.{header-is, root-is}
+use Rattle.rules.proofs.Reading.{nodesInWaits, nodesInMoves, ReadWaits, ReadMoves, MoveRead, move-read, cell-read}
 
 -- waits have a move
 mutual
@@ -124,51 +127,69 @@ mutual
       (waits-in-order ws b (levels - 1) (from + 1) (r .0 .3))
       (moves-in-order ms b levels (from + 1 + nodesInWaits ws) (r .1))
 
--- of the whole sheet: its root was read from line 2 on
-record RootRead (h : Header) (t : Bytes) (s : Sheet) : Type 0 where
-  same-board : s .board ≡ h .board
+-- of the whole sheet: its header was read, then its root from line 2 on, and no text is left
+record SheetRead (t : Bytes) (s : Sheet) : Type 0 where
+  body : Bytes
+  header : headerLine t ≡ some (record { board = s .board; player = s .player }, body)
   after : Spot
-  was-read : readMove mostDepth (h .board) (moveLine orElse dashLine) (record { text = t; line = 2; nodes = 0 }) ≡ got (s .root, after)
+  root-read : readMove mostDepth (s .board) (moveLine orElse dashLine) (record { text = body; line = 2; nodes = 0 }) ≡ got (s .root, after)
+  no-more : after .text ≡ []
 
-ended-got : (h : Header) (r : Result (Move × Spot)) (s : Sheet) → ended h r ≡ got s → (s .board ≡ h .board) × (after : Spot) × (r ≡ got (s .root, after))
+ended-got : (h : Header) (r : Result (Move × Spot)) (s : Sheet) → ended h r ≡ got s
+    → (h ≡ record { board = s .board; player = s .player }) × (after : Spot) × (r ≡ got (s .root, after)) × (after .text ≡ [])
 unfolding ended
 ended-got h (refused v) s e = absurd (not-refused e)
 ended-got h (got x) s e = by-text (x .1 .text) refl
   where
-    by-text : (t : Bytes) → x .1 .text ≡ t → (s .board ≡ h .board) × (after : Spot) × (got x ≡ got (s .root, after))
+    by-text : (t : Bytes) → x .1 .text ≡ t → (h ≡ record { board = s .board; player = s .player }) × (after : Spot) × (got x ≡ got (s .root, after)) × (after .text ≡ [])
     by-text [] k =
-        let g = got-inj (rw (k, ended) at e) in
-        (sym (ap (λ (z : Sheet). z .board) g), x .1, ap (λ (z : Sheet). got (z .root, x .1)) g)
+        subst (λ (z : Sheet). (h ≡ record { board = z .board; player = z .player }) × (after : Spot) × (got x ≡ got (z .root, after)) × (after .text ≡ []))
+        (got-inj (rw (k, ended) at e)) (refl, x .1, refl, k)
     by-text (c ∷ t) k = absurd (not-refused (rw (k, ended) at e))
 
-headed-got : (o : Option (Header × Bytes)) (s : Sheet) → headed o ≡ got s → (x : Header × Bytes) × (o ≡ some x) × RootRead (x .0) (x .1) s
+headed-got : (t : Bytes) (o : Option (Header × Bytes)) (s : Sheet) → headerLine t ≡ o → headed o ≡ got s → SheetRead t s
 unfolding headed readBody
-headed-got none s e = absurd (not-refused e)
-headed-got (some x) s e =
-    let g = ended-got (x .0) _ s e in
-    (x, refl, record { same-board = g .0; after = g .1; was-read = g .2 })
-
-pub well-read : (t : Bytes) (s : Sheet) → readSheet t ≡ got s → WellRead s
-unfolding readSheet everyWait moveCount waitCount everyMove linesOf upFrom BoardSize
-well-read t s e =
-    let g = headed-got (headerLine t) s e in
-    let size = subst⁻¹ BoardSize (g .2 .same-board) (header-size t (g .0) (g .1)) in
-    let m = move-read mostDepth (g .0 .0 .board) (moveLine orElse dashLine) (record { text = g .0 .1; line = 2; nodes = 0 }) (s .root) (g .2 .after) (g .2 .was-read) in
-    let b = g .0 .0 .board in
-    let ws = s .root .waits in
-    let n = m .node-of .2 in
-    let c = cell-read b (n .line-read .0 .place) (n .inside) in
-    let same = g .2 .same-board in
-    let nodes : length (everyMove s) + length (everyWait s) ≡ suc (nodesInWaits ws) = omega (arith, nodes-of-waits ws) in
+headed-got t none s f e = absurd (not-refused e)
+headed-got t (some x) s f e =
+    let (h, after, r, no-more) = ended-got (x .0) _ s e in
     record {
-      columns = size .0;
-      rows = size .1;
-      some-moves = some-in-waits ws b 127 3 (m .waits-of);
-      on-board = subst⁻¹ (λ (z : Board). (k : Move) → k ∈ movesOfWaits ws → T (isCell z (k .cell))) same (board-in-waits ws b 127 3 (m .waits-of));
-      root-on-board =
-          subst⁻¹ (λ (z : Board). (s .root .cell ≡ 0) ⊎ T (isCell z (s .root .cell))) same
-          (subst⁻¹ (λ (z : ℕ). (z ≡ 0) ⊎ T (isCell b z)) (m .node-of .3 ∙ n .its-cell) c);
-      few-nodes = omega (arith, nodes, m .went-of .nodes-went, m .went-of .still-few (omega arith));
-      shallow = omega (arith, waits-shallow ws b 127 3 (m .waits-of));
-      in-order = rw nodes (ap₂ _∷_ (m .line-of) (waits-in-order ws b 127 3 (m .waits-of)));
+      body = x .1;
+      header = f ∙ ap (λ (k : Header). some (k, x .1)) h;
+      after = after;
+      root-read = ap (λ (k : Header). readMove mostDepth (k .board) (moveLine orElse dashLine) (record { text = x .1; line = 2; nodes = 0 })) (sym h) ∙ r;
+      no-more = no-more;
     }
+
+module _ (t : Bytes) (s : Sheet) (e : readSheet t ≡ got s) where
+  sheet-read : SheetRead t s
+  unfolding readSheet
+  sheet-read = headed-got t (headerLine t) s refl e
+
+  root-read : MoveRead (s .board) (moveLine orElse dashLine) mostDepth (record { text = sheet-read .body; line = 2; nodes = 0 }) (s .root) (sheet-read .after)
+  root-read = move-read mostDepth (s .board) (moveLine orElse dashLine) (record { of = root-is }) _ (s .root) (sheet-read .after) (sheet-read .root-read)
+
+  pub well-read : WellRead s
+  unfolding everyWait moveCount waitCount everyMove linesOf upFrom BoardSize
+  well-read =
+      let size = header-is t _ (sheet-read .header) .1 in
+      let m = root-read in
+      let b = s .board in
+      let ws = s .root .waits in
+      let n = m .node-of .2 in
+      let nodes : length (everyMove s) + length (everyWait s) ≡ suc (nodesInWaits ws) = omega (arith, nodes-of-waits ws) in
+      record {
+        columns = size .0;
+        rows = size .1;
+        some-moves = some-in-waits ws b 127 3 (m .waits-of);
+        on-board = board-in-waits ws b 127 3 (m .waits-of);
+        root-on-board = subst⁻¹ (λ (z : ℕ). (z ≡ 0) ⊎ T (isCell b z)) (m .node-of .3 ∙ n .its-cell) (cell-read b (n .line-read .0 .place) (n .inside));
+        few-nodes = omega (arith, nodes, m .went-of .nodes-went, m .went-of .still-few (omega arith));
+        shallow = omega (arith, waits-shallow ws b 127 3 (m .waits-of));
+        first-line = m .line-of;
+        in-order = rw (m .line-of, nodes) (ap (λ (l : List ℕ). 2 ∷ l) (waits-in-order ws b 127 3 (m .waits-of)));
+      }
+
+  -- the text that was read is what is written of the sheet
+  pub print-back : t ≡ written s
+  unfolding written
+  print-back = header-is t _ (sheet-read .header) .0 ∙ rw (root-read .went-of .text-went, sheet-read .no-more) (simp (append-assoc, append-nil))

@@ -1,5 +1,5 @@
 -- "The board": its cells, their numbers and their neighbours, and the sides that a player joins.
-use Prim.Native.Nat.{ℕ, _+_, _*_, _-_, _/_, _%_}
+use Prim.Native.Nat.{ℕ, _+_, _*_, _-_, _/_, _%_, _≤_}
 use mathlib.Core.Bool.{Bool, _&&_}
 use mathlib.Core.List.{List, [], _∷_, _++_}
 use lib.Dec.{eqb, leb}
@@ -8,9 +8,15 @@ use Rattle.rules.specs.declared.Board.{Board}
 use Rattle.rules.specs.declared.Player.{Player}
 use Rattle.rules.specs.declared.Player.the-variants.{D, A}
 
--- column c, row r is on the board
+-- column c, row r is on the board: as a test, and as a statement
 unfoldable pub onBoard : Board → ℕ → ℕ → Bool
 onBoard b c r = (leb 1 c && leb c (b .columns)) && (leb 1 r && leb r (b .rows))
+
+pub record On (b : Board) (c r : ℕ) : Type 0 where
+  pub left : 1 ≤ c
+  pub right : c ≤ b .columns
+  pub top : 1 ≤ r
+  pub bottom : r ≤ b .rows
 
 -- the cell number is (r-1) times the columns, plus c, from 1
 unfoldable pub cellAt : Board → ℕ → ℕ → ℕ

@@ -18,6 +18,7 @@ use Rattle.rules.specs.Outcomes.{outcomes, outcomeCount}
 use Rattle.rules.specs.Answering.{Game, start, isOver, isTaken, answered}
 use Rattle.rules.specs.declared.Board.{Board}
 use Rattle.rules.specs.declared.Player.{Player}
+use Rattle.rules.specs.declared.Counts.{Counts}
 use Rattle.rules.specs.declared.Played.{Played}
 use Rattle.rules.specs.declared.Named.{Named}
 use Rattle.rules.specs.declared.Verdict.{Verdict}
@@ -44,12 +45,17 @@ unfoldable pub refuseUnjoined : Board → Player → (n : ℕ) → List (List �
 refuseUnjoined b p n [] = got tt
 refuseUnjoined b p n (o ∷ os) = elim (joined b p (among o)) [ true ↦ refuseUnjoined b p (n + 1) os | false ↦ refused (NotJoined n) ]
 
+-- 2, then the reading's 3 to 9
+unfoldable pub readText : Bytes → Result Sheet
+readText t = do
+  _ ← refuseIf (ltb mostBytes (length t)) LongText
+  readSheet t
+
 -- order: 1, 2, 3; then the reading's 4 to 9
 unfoldable pub read : (workspace : ℕ) → Bytes → Result Sheet
 read w t = do
   _ ← refuseIf (ltb w leastWorkspace) SmallWorkspace
-  _ ← refuseIf (ltb mostBytes (length t)) LongText
-  readSheet t
+  readText t
 
 -- then 10, 11, 12, each over the whole tree
 unfoldable pub fair : Sheet → Result Sheet
@@ -72,10 +78,14 @@ accepted w t = do
   s ← fair s
   satisfying s
 
--- Judge takes a sheet and answers a verdict; it also returns the counts of moves, waits and outcomes
+-- the counts of a sheet that judge accepts: moves, waits and outcomes
+unfoldable pub counts : Sheet → Counts
+counts s = record { moves = moveCount s; waits = waitCount s; outcomes = outcomeCount s }
+
+-- Judge takes a sheet and answers a verdict; it also returns the counts
 unfoldable pub judged : Result Sheet → Verdict
 judged (refused v) = v
-judged (got s) = Accepted (moveCount s) (waitCount s) (outcomeCount s)
+judged (got s) = Accepted (counts s)
 
 unfoldable pub judge : (workspace : ℕ) → Bytes → Verdict
 judge w t = judged (accepted w t)

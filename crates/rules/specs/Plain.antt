@@ -11,12 +11,15 @@ use Rattle.rules.specs.Words.{_∈_, among}
 use Rattle.rules.specs.Board.{isCell}
 use Rattle.rules.specs.Text.{Bytes}
 use Rattle.rules.specs.Tree.{Waits, noWaits, wait, Moves, noMoves, move, Wait, Move, Sheet, movesOfWaits, everyMove, everyWait, moveCount, waitCount}
-use Rattle.rules.specs.Reading.{refused, got, readSheet}
+use Rattle.rules.specs.Written.{written}
+use Rattle.rules.specs.Unread.{Unread}
 use Rattle.rules.specs.Fair.{Fault, inWaits, holding, inEvery, notApart, notElusive}
 use Rattle.rules.specs.Outcomes.{outcomes, outcomeCount}
 use Rattle.rules.specs.Joining.{Joins}
-use Rattle.rules.specs.Verdict.{told, toldAs}
+use Rattle.rules.specs.Entries.{counts}
+use Rattle.rules.specs.Verdict.{told, toldAs, toldAccepted}
 use Rattle.rules.specs.declared.Board.{Board}
+use Rattle.rules.specs.declared.Counts.{Counts}
 use Rattle.rules.specs.declared.Told.{Told}
 use Rattle.rules.specs.declared.Verdict.{Verdict}
 
@@ -48,7 +51,7 @@ unfoldable mutual
   depthOfMoves noMoves = 0
   depthOfMoves (move line c ws ms) = max (suc (depthOfWaits ws)) (depthOfMoves ms)
 
--- What a text that reads is: a board of 1 to 13 columns and rows, waits with at least one move, cells on the board, `-` at the
+-- What a sheet that reads is: a board of 1 to 13 columns and rows, waits with at least one move, cells on the board, `-` at the
 -- root only, at most 2,048 nodes, at most depth 128, and nodes on the lines 2, 3 and so on
 pub record WellRead (s : Sheet) : Type 0 where
   pub columns : (1 ≤ s .board .columns) × (s .board .columns ≤ largest)
@@ -58,7 +61,13 @@ pub record WellRead (s : Sheet) : Type 0 where
   pub root-on-board : (s .root .cell ≡ 0) ⊎ T (isCell (s .board) (s .root .cell))
   pub few-nodes : moveCount s + waitCount s ≤ mostNodes
   pub shallow : suc (depthOfWaits (s .root .waits)) ≤ mostDepth
-  pub in-order : linesOf s ≡ upFrom 2 (moveCount s + waitCount s)
+  pub first-line : s .root .line ≡ 2
+  pub in-order : linesOf s ≡ upFrom (s .root .line) (moveCount s + waitCount s)
+
+-- The text is what is written of the sheet, by document 01
+pub record Spells (t : Bytes) (s : Sheet) : Type 0 where
+  pub text : t ≡ written s
+  pub well : WellRead s
 
 -- Apart: no cell of the board is the move's own and found under it, nor found in two or more of its waits
 pub record IsApart (b : Board) (m : Move) : Type 0 where
@@ -83,22 +92,22 @@ pub record WithinSizes (workspace : ℕ) (t : Bytes) : Type 0 where
   pub enough : leastWorkspace ≤ workspace
   pub short : length t ≤ mostBytes
 
+-- what is read: a text within the sizes that is what is written of the sheet
+pub record IsRead (workspace : ℕ) (t : Bytes) (s : Sheet) : Type 0 where
+  pub sizes : WithinSizes workspace t
+  pub spells : Spells t s
+
+-- what outcome asks of a sheet: all but that its outcomes join
+pub record IsFair (workspace : ℕ) (t : Bytes) (s : Sheet) : Type 0 where
+  pub read : IsRead workspace t s
+  pub apart : AllApart s
+  pub elusive : AllElusive s
+  pub few : outcomeCount s ≤ mostOutcomes
+
 -- A sheet by document 01, with a workspace as it names it
 pub record IsSheet (workspace : ℕ) (t : Bytes) (s : Sheet) : Type 0 where
-  pub sizes : WithinSizes workspace t
-  pub reads : readSheet t ≡ got s
-  pub apart : AllApart s
-  pub elusive : AllElusive s
-  pub few : outcomeCount s ≤ mostOutcomes
+  pub fair : IsFair workspace t s
   pub satisfying : AllJoin s
-
--- what outcome asks of a sheet: all but 13
-pub record IsFair (workspace : ℕ) (t : Bytes) (s : Sheet) : Type 0 where
-  pub sizes : WithinSizes workspace t
-  pub reads : readSheet t ≡ got s
-  pub apart : AllApart s
-  pub elusive : AllElusive s
-  pub few : outcomeCount s ≤ mostOutcomes
 
 -- A fault is the first faulty node's, with its smallest faulty cell
 pub record IsFirst {N : Type 0} (b : Board) (line : N → ℕ) (faulty : N → ℕ → Bool) (ns : List N) (f : Fault) : Type 0 where
@@ -117,21 +126,19 @@ pub record IsFirstUnjoined (s : Sheet) (i : ℕ) : Type 0 where
   pub not-joined : Joins (s .board) (s .player) (among (getD (outcomes s) i [])) → ⊥
   pub joined-before : (j : ℕ) → j < i → Joins (s .board) (s .player) (among (getD (outcomes s) j []))
 
--- The table's "given exactly when" for judge, in the paper's numbers: number, line, cell, index, and the counts
+-- The table's "given exactly when" for judge, in the paper's numbers: number, line, cell, index, and the counts; 3 to 9 are the
+-- cases of `Unread`
 pub data Given (workspace : ℕ) (t : Bytes) : Told → Type 0 where
-  as-accepted : (s : Sheet) → IsSheet workspace t s
-      → Given workspace t (record { number = 0; line = 0; cell = 0; index = 0; moves = moveCount s; waits = waitCount s; outcomes = outcomeCount s })
+  as-accepted : (s : Sheet) → IsSheet workspace t s → Given workspace t (toldAccepted (counts s))
   as-small : workspace < leastWorkspace → Given workspace t (toldAs 1 0 0 0)
   as-long : leastWorkspace ≤ workspace → mostBytes < length t → Given workspace t (toldAs 2 0 0 0)
-  as-unread : (v : Verdict) → WithinSizes workspace t → readSheet t ≡ refused v → Given workspace t (told v)
-  as-not-apart : (s : Sheet) (f : Fault) → WithinSizes workspace t → readSheet t ≡ got s → IsFirst (s .board) (λ m. m .line) notApart (everyMove s) f
+  as-unread : (v : Verdict) → WithinSizes workspace t → Unread t v → Given workspace t (told v)
+  as-not-apart : (s : Sheet) (f : Fault) → IsRead workspace t s → IsFirst (s .board) (λ m. m .line) notApart (everyMove s) f
       → Given workspace t (toldAs 10 (f .line) (f .cell) 0)
-  as-not-elusive : (s : Sheet) (f : Fault) → WithinSizes workspace t → readSheet t ≡ got s → AllApart s
-      → IsFirst (s .board) (λ w. w .line) notElusive (everyWait s) f → Given workspace t (toldAs 11 (f .line) (f .cell) 0)
-  as-too-many : (s : Sheet) → WithinSizes workspace t → readSheet t ≡ got s → AllApart s → AllElusive s → mostOutcomes < outcomeCount s
-      → Given workspace t (toldAs 12 0 0 0)
-  as-not-joined : (s : Sheet) (i : ℕ) → WithinSizes workspace t → readSheet t ≡ got s → AllApart s → AllElusive s → outcomeCount s ≤ mostOutcomes
-      → IsFirstUnjoined s i → Given workspace t (toldAs 13 0 0 i)
+  as-not-elusive : (s : Sheet) (f : Fault) → IsRead workspace t s → AllApart s → IsFirst (s .board) (λ w. w .line) notElusive (everyWait s) f
+      → Given workspace t (toldAs 11 (f .line) (f .cell) 0)
+  as-too-many : (s : Sheet) → IsRead workspace t s → AllApart s → AllElusive s → mostOutcomes < outcomeCount s → Given workspace t (toldAs 12 0 0 0)
+  as-not-joined : (s : Sheet) (i : ℕ) → IsFair workspace t s → IsFirstUnjoined s i → Given workspace t (toldAs 13 0 0 i)
 
 -- A refusal of the reading, by its number
 pub record OfReading (v : Verdict) : Type 0 where
@@ -139,9 +146,7 @@ pub record OfReading (v : Verdict) : Type 0 where
   pub most : told v .number ≤ 9
 
 -- A sheet by document 01, with its counts
-pub record AcceptedAs (workspace : ℕ) (t : Bytes) (moves waits count : ℕ) : Type 0 where
+pub record AcceptedAs (workspace : ℕ) (t : Bytes) (n : Counts) : Type 0 where
   pub sheet : Sheet
   pub is-sheet : IsSheet workspace t sheet
-  pub moves-are : moves ≡ moveCount sheet
-  pub waits-are : waits ≡ waitCount sheet
-  pub outcomes-are : count ≡ outcomeCount sheet
+  pub counts-are : n ≡ counts sheet

@@ -1,11 +1,10 @@
 -- "The sheet" and "Three entries", 3 to 9: the header, then the nodes in preorder. The first line with a fault decides.
 use Prim.Native.Nat.{ℕ, zero, suc, _+_}
-use mathlib.Core.Bool.{Bool, true}
+use mathlib.Core.Bool.{Bool, true, false, not}
 use mathlib.Core.List.{List, [], _∷_}
 use mathlib.Core.Option.{Option, none, some}
 use lib.Dec.{eqb}
 use Rattle.rules.specs.Sizes.{mostNodes, mostDepth}
-use Rattle.rules.specs.Words.{if_then_else_}
 use Rattle.rules.specs.Board.{onBoard, cellAt}
 use Rattle.rules.specs.Text.{Bytes, Reader, _orElse_}
 use Rattle.rules.specs.Lines.{Line, Place, Header, headerLine, moveLine, dashLine, waitLine}
@@ -56,35 +55,46 @@ pub record Node : Type 0 where
   pub cell : ℕ
   pub under : ℕ
 
--- 5: a cell off the board
-unfoldable pub placed : Board → Spot → Line × Bytes → Result (Node × Spot)
-placed b s x =
-    if within b (x .0 .place)
-    then
+-- refused with the line's number where the test passes
+unfoldable pub refuseHere : Bool → (ℕ → Verdict) → Reading (Unit {0})
+refuseHere true v s = refused (v (s .line))
+refuseHere false v s = give tt s
+
+-- a line with the text after it; refused with the line's number where there is none
+unfoldable pub lineHere : Option (Line × Bytes) → (ℕ → Verdict) → Reading (Line × Bytes)
+lineHere none v s = refused (v (s .line))
+lineHere (some x) v s = give x s
+
+-- the line's node, and the spot after it
+unfoldable pub nodeHere : Board → Line × Bytes → Reading Node
+nodeHere b x s =
     got (
       record { line = s .line; cell = cellOf b (x .0 .place); under = x .0 .under },
       record { text = x .1; line = s .line + 1; nodes = s .nodes + 1 },
     )
-    else refused (OffBoard (s .line))
 
--- 7: a node at depth 129, where no level is left
-unfoldable pub atDepth : Board → (levels : ℕ) → Spot → Line × Bytes → Result (Node × Spot)
-atDepth b zero s x = refused (TooDeep (s .line))
-atDepth b (suc levels) s x = placed b s x
+unfoldable pub here : Reading Spot
+here s = give s s
 
--- 4: a node line malformed, of the wrong kind, or without its line feed
-unfoldable pub wellFormed : Board → (levels : ℕ) → Spot → Option (Line × Bytes) → Result (Node × Spot)
-wellFormed b levels s none = refused (BadLine (s .line))
-wellFormed b levels s (some x) = atDepth b levels s x
+unfoldable pub isNothing : Bytes → Bool
+isNothing [] = true
+isNothing (_ ∷ _) = false
 
--- 6: a 2,049th node line begins while the tree is unfinished
-unfoldable pub counted : Board → Reader Line → (levels : ℕ) → Spot → Result (Node × Spot)
-counted b r levels s =
-    if eqb (s .nodes) mostNodes then refused (TooManyNodes (s .line)) else wellFormed b levels s (r (s .text))
-
--- 8: the text ends and the tree is unfinished. So the next node's line, which r reads, has the order 8, 6, 4, 7, 5
+-- The next node's line, which r reads, where so many levels are left. Refused in the order
+--   8: the text ends and the tree is unfinished
+--   6: a 2,049th node line begins while the tree is unfinished
+--   4: a node line malformed, of the wrong kind, or without its line feed
+--   7: a node at depth 129
+--   5: a cell off the board
 unfoldable pub nodeLine : Board → Reader Line → (levels : ℕ) → Reading Node
-nodeLine b r levels s = elim (s .text) [ [] ↦ refused (Unfinished (s .line)) | _∷_ _ _ ↦ counted b r levels s ]
+nodeLine b r levels = do
+  s ← here
+  _ ← refuseHere (isNothing (s .text)) Unfinished
+  _ ← refuseHere (eqb (s .nodes) mostNodes) TooManyNodes
+  x ← lineHere (r (s .text)) BadLine
+  _ ← refuseHere (eqb levels 0) TooDeep
+  _ ← refuseHere (not (within b (x .0 .place))) OffBoard
+  nodeHere b x
 
 -- n of a kind one after another
 unfoldable pub inTurn : {X : Type 0} → ℕ → Reading X → Reading (List X)

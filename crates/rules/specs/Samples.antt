@@ -27,7 +27,7 @@ pub data Request : Type 0 where
 
 -- of judge: number, line, cell, index, moves, waits, outcomes; of play: number, place, 1 where play is over, the answers
 unfoldable pub toldOf : Told → List ℕ
-toldOf v = v .number ∷ v .line ∷ v .cell ∷ v .index ∷ v .moves ∷ v .waits ∷ v .outcomes ∷ []
+toldOf v = v .number ∷ v .line ∷ v .cell ∷ v .index ∷ v .counts .moves ∷ v .counts .waits ∷ v .counts .outcomes ∷ []
 
 unfoldable pub reply : Request → List ℕ
 reply (judging s) = toldOf (told (judge leastWorkspace (sheet s)))
@@ -54,40 +54,49 @@ p1 = onB1 (move 4 3 noWaits (move 5 4 noWaits noMoves))
 abbrev pub p3 : Sheet
 p3 = onB1 (move 4 3 noWaits noMoves)
 
-unfoldable pub table : List (Request × List ℕ)
+-- a row: its name in the paper, what is asked, and the reply
+pub record Row : Type 0 where
+  pub name : S.String
+  pub asks : Request
+  pub expects : List ℕ
+
+abbrev row : S.String → Request → List ℕ → Row
+row n q r = record { name = n; asks = q; expects = r }
+
+unfoldable pub table : List Row
 table =
-    (judging P1, 0 ∷ 0 ∷ 0 ∷ 0 ∷ 3 ∷ 1 ∷ 2 ∷ [])
-    ∷ (judging "hex 2 2 D/m a1 1/w 2/m a2 0/m b2 0/", 13 ∷ 0 ∷ 0 ∷ 1 ∷ 0 ∷ 0 ∷ 0 ∷ [])
-    ∷ (judging P3, 11 ∷ 3 ∷ 3 ∷ 0 ∷ 0 ∷ 0 ∷ 0 ∷ [])
-    ∷ (judging "hex 2 2 D/m b1 1/w 2/m a2 0/m b1 0/", 10 ∷ 2 ∷ 2 ∷ 0 ∷ 0 ∷ 0 ∷ 0 ∷ [])
-    ∷ (judging "hex 2 2 D/m b1 2/w 2/m a2 0/m b2 0/w 2/m a1 0/m a2 0/", 10 ∷ 2 ∷ 3 ∷ 0 ∷ 0 ∷ 0 ∷ 0 ∷ [])
-    ∷ (judging "hex 1 1 D/m a1 0/", 0 ∷ 0 ∷ 0 ∷ 0 ∷ 1 ∷ 0 ∷ 1 ∷ [])
-    ∷ (judging "hex 1 1 D/m - 0/", 13 ∷ 0 ∷ 0 ∷ 0 ∷ 0 ∷ 0 ∷ 0 ∷ [])
-    ∷ (judging P8, 0 ∷ 0 ∷ 0 ∷ 0 ∷ 7 ∷ 3 ∷ 8 ∷ [])
-    ∷ (judging "hex 3 2 D/m - 2/w 2/m b1 0/m c1 0/w 2/m a2 0/m b2 0/", 13 ∷ 0 ∷ 0 ∷ 2 ∷ 0 ∷ 0 ∷ 0 ∷ [])
-    ∷ (playing P1 (3 ∷ []), 0 ∷ 0 ∷ 1 ∷ 4 ∷ [])
-    ∷ (playing P1 (3 ∷ 1 ∷ []), 15 ∷ 2 ∷ 0 ∷ [])
-    ∷ (playing P8 (2 ∷ 5 ∷ 1 ∷ []), 0 ∷ 0 ∷ 1 ∷ 3 ∷ 4 ∷ 6 ∷ [])
+    row "P1" (judging P1) (0 ∷ 0 ∷ 0 ∷ 0 ∷ 3 ∷ 1 ∷ 2 ∷ [])
+    ∷ row "P2" (judging "hex 2 2 D/m a1 1/w 2/m a2 0/m b2 0/") (13 ∷ 0 ∷ 0 ∷ 1 ∷ 0 ∷ 0 ∷ 0 ∷ [])
+    ∷ row "P3" (judging P3) (11 ∷ 3 ∷ 3 ∷ 0 ∷ 0 ∷ 0 ∷ 0 ∷ [])
+    ∷ row "P4" (judging "hex 2 2 D/m b1 1/w 2/m a2 0/m b1 0/") (10 ∷ 2 ∷ 2 ∷ 0 ∷ 0 ∷ 0 ∷ 0 ∷ [])
+    ∷ row "P5" (judging "hex 2 2 D/m b1 2/w 2/m a2 0/m b2 0/w 2/m a1 0/m a2 0/") (10 ∷ 2 ∷ 3 ∷ 0 ∷ 0 ∷ 0 ∷ 0 ∷ [])
+    ∷ row "P6" (judging "hex 1 1 D/m a1 0/") (0 ∷ 0 ∷ 0 ∷ 0 ∷ 1 ∷ 0 ∷ 1 ∷ [])
+    ∷ row "P7" (judging "hex 1 1 D/m - 0/") (13 ∷ 0 ∷ 0 ∷ 0 ∷ 0 ∷ 0 ∷ 0 ∷ [])
+    ∷ row "P8" (judging P8) (0 ∷ 0 ∷ 0 ∷ 0 ∷ 7 ∷ 3 ∷ 8 ∷ [])
+    ∷ row "P9" (judging "hex 3 2 D/m - 2/w 2/m b1 0/m c1 0/w 2/m a2 0/m b2 0/") (13 ∷ 0 ∷ 0 ∷ 2 ∷ 0 ∷ 0 ∷ 0 ∷ [])
+    ∷ row "P10" (playing P1 (3 ∷ [])) (0 ∷ 0 ∷ 1 ∷ 4 ∷ [])
+    ∷ row "P11" (playing P1 (3 ∷ 1 ∷ [])) (15 ∷ 2 ∷ 0 ∷ [])
+    ∷ row "P12" (playing P8 (2 ∷ 5 ∷ 1 ∷ [])) (0 ∷ 0 ∷ 1 ∷ 3 ∷ 4 ∷ 6 ∷ [])
     ∷ []
 
--- "Traps for the setter's tool", and the sentences of the paper that P1 to P12 do not pin: the first and third wait share a
--- cell; a cell deep in every branch; b1 touches a2 and a1 does not touch b2; a move outside all open waits is answered, under the
--- open wait with the smallest line number; the touched wait is answered; an answered wait is closed, and its other cells are free
--- moves; on a one-row board a single cell joins for D
-unfoldable pub traps : List (Request × List ℕ)
+abbrev twoWaits : S.String
+twoWaits = "hex 3 2 D/m b1 2/w 2/m a1 0/m c1 0/w 2/m a2 0/m b2 0/"
+
+-- "Traps for the setter's tool", and the sentences of the paper that P1 to P12 do not pin
+unfoldable pub traps : List Row
 traps =
-    (judging "hex 3 3 D/m b2 3/w 2/m a1 0/m b1 0/w 2/m a2 0/m c2 0/w 2/m a1 0/m c3 0/", 10 ∷ 2 ∷ 1 ∷ 0 ∷ 0 ∷ 0 ∷ 0 ∷ [])
-    ∷ (judging "hex 3 3 D/m b2 1/w 2/m b1 1/w 2/m a1 0/m a2 0/m c1 1/w 2/m a1 0/m a3 0/", 11 ∷ 3 ∷ 1 ∷ 0 ∷ 0 ∷ 0 ∷ 0 ∷ [])
-    ∷ (judging "hex 2 2 D/m b1 1/w 2/m a2 0/m a1 0/", 13 ∷ 0 ∷ 0 ∷ 1 ∷ 0 ∷ 0 ∷ 0 ∷ [])
-    ∷ (playing P1 (1 ∷ []), 0 ∷ 0 ∷ 1 ∷ 3 ∷ [])
-    ∷ (playing "hex 3 2 D/m b1 2/w 2/m a1 0/m c1 0/w 2/m a2 0/m b2 0/" (6 ∷ 4 ∷ []), 0 ∷ 0 ∷ 1 ∷ 1 ∷ 5 ∷ [])
-    ∷ (playing "hex 3 2 D/m b1 2/w 2/m a1 0/m c1 0/w 2/m a2 0/m b2 0/" (6 ∷ 3 ∷ []), 0 ∷ 0 ∷ 1 ∷ 1 ∷ 4 ∷ [])
-    ∷ (playing P8 (4 ∷ 6 ∷ []), 0 ∷ 0 ∷ 0 ∷ 5 ∷ 1 ∷ [])
-    ∷ (judging "hex 3 1 D/m b1 0/", 0 ∷ 0 ∷ 0 ∷ 0 ∷ 1 ∷ 0 ∷ 1 ∷ [])
+    row "the first and the third wait share a cell" (judging "hex 3 3 D/m b2 3/w 2/m a1 0/m b1 0/w 2/m a2 0/m c2 0/w 2/m a1 0/m c3 0/") (10 ∷ 2 ∷ 1 ∷ 0 ∷ 0 ∷ 0 ∷ 0 ∷ [])
+    ∷ row "a cell deep in every branch" (judging "hex 3 3 D/m b2 1/w 2/m b1 1/w 2/m a1 0/m a2 0/m c1 1/w 2/m a1 0/m a3 0/") (11 ∷ 3 ∷ 1 ∷ 0 ∷ 0 ∷ 0 ∷ 0 ∷ [])
+    ∷ row "b1 touches a2, a1 does not touch b2" (judging "hex 2 2 D/m b1 1/w 2/m a2 0/m a1 0/") (13 ∷ 0 ∷ 0 ∷ 1 ∷ 0 ∷ 0 ∷ 0 ∷ [])
+    ∷ row "a move outside all open waits is answered" (playing P1 (1 ∷ [])) (0 ∷ 0 ∷ 1 ∷ 3 ∷ [])
+    ∷ row "under the open wait with the smallest line, then under the touched one" (playing twoWaits (6 ∷ 4 ∷ [])) (0 ∷ 0 ∷ 1 ∷ 1 ∷ 5 ∷ [])
+    ∷ row "an answered wait is closed: its other cells are free moves" (playing twoWaits (6 ∷ 3 ∷ [])) (0 ∷ 0 ∷ 1 ∷ 1 ∷ 4 ∷ [])
+    ∷ row "the touched wait is answered" (playing P8 (4 ∷ 6 ∷ [])) (0 ∷ 0 ∷ 0 ∷ 5 ∷ 1 ∷ [])
+    ∷ row "on a board of one row a single cell joins for D" (judging "hex 3 1 D/m b1 0/") (0 ∷ 0 ∷ 0 ∷ 0 ∷ 1 ∷ 0 ∷ 1 ∷ [])
     ∷ []
 
-unfoldable pub replies : List (Request × List ℕ) → List (List ℕ)
-replies rows = map (λ (row : Request × List ℕ). reply (row .0)) rows
+unfoldable pub replies : List Row → List (List ℕ)
+replies rows = map (λ (r : Row). reply (r .asks)) rows
 
-unfoldable pub expected : List (Request × List ℕ) → List (List ℕ)
-expected rows = map (λ (row : Request × List ℕ). row .1) rows
+unfoldable pub expected : List Row → List (List ℕ)
+expected rows = map (λ (r : Row). r .expects) rows

@@ -2,14 +2,21 @@
 use Prim.Native.Nat.{ℕ}
 use Rattle.rules.specs.declared.Verdict.{Verdict}
 use Rattle.rules.specs.declared.Told.{Told}
+use Rattle.rules.specs.declared.Counts.{Counts}
 use Rattle.rules.specs.declared.Verdict.the-variants.{Accepted, Done, SmallWorkspace, LongText, BadHeader, BadLine, OffBoard, TooManyNodes, TooDeep, Unfinished, TextAfter, NotApart, NotElusive, TooManyOutcomes, NotJoined, ShortRoom, AfterOver, NoSuchCell, CellTaken, NoSuchOutcome}
 
--- all three counts are 0 on a refusal
+-- the counts are 0 on a refusal
+abbrev pub noCounts : Counts
+noCounts = record { moves = 0; waits = 0; outcomes = 0 }
+
 abbrev pub toldAs : (number line cell index : ℕ) → Told
-toldAs n l c i = record { number = n; line = l; cell = c; index = i; moves = 0; waits = 0; outcomes = 0 }
+toldAs n l c i = record { number = n; line = l; cell = c; index = i; counts = noCounts }
+
+abbrev pub toldAccepted : Counts → Told
+toldAccepted n = record { number = 0; line = 0; cell = 0; index = 0; counts = n }
 
 abbrev pub told : Verdict → Told
-told (Accepted m w o) = record { number = 0; line = 0; cell = 0; index = 0; moves = m; waits = w; outcomes = o }
+told (Accepted n) = toldAccepted n
 told Done = toldAs 0 0 0 0
 told SmallWorkspace = toldAs 1 0 0 0
 told LongText = toldAs 2 0 0 0

@@ -13,12 +13,17 @@ pub struct Board {
     pub rows: usize,
 }
 
+// What judge counts on a sheet that it accepts.
+pub struct Counts {
+    pub moves: u32,
+    pub waits: u32,
+    pub outcomes: u32,
+}
+
 // The verdict is one value with a case for each kind of reply and its details.
 pub enum Verdict {
     Accepted {
-        moves: u32,
-        waits: u32,
-        outcomes: u32,
+        counts: Counts,
     },
     Done,
     SmallWorkspace,
@@ -67,9 +72,7 @@ pub struct Told {
     pub line: u32,
     pub cell: u32,
     pub index: u32,
-    pub moves: u32,
-    pub waits: u32,
-    pub outcomes: u32,
+    pub counts: Counts,
 }
 
 // Play also returns the place of the refused move, the number of answers, and whether play is over.

@@ -10,7 +10,7 @@ use Rattle.rules.specs.Text.{Bytes}
 use Rattle.rules.specs.Tree.{Sheet, everyWait, moveCount, waitCount}
 use Rattle.rules.specs.Reading.{Result, refused, got}
 use Rattle.rules.specs.Outcomes.{outcomes, outcomeCount}
-use Rattle.rules.specs.Entries.{_>>=_, refuseIf, refuseUnjoined, read, fair, accepted, judged, judge, workspaceAfter, JudgeKept}
+use Rattle.rules.specs.Entries.{_>>=_, refuseIf, refuseUnjoined, readText, read, fair, accepted, judged, judge, workspaceAfter, JudgeKept}
 use Rattle.rules.specs.declared.Board.{Board}
 use Rattle.rules.specs.declared.Player.{Player}
 use Rattle.rules.specs.declared.Verdict.{Verdict}
@@ -27,7 +27,7 @@ use Rattle.outcomes.specs.Searching.{Countable, UnjoinedFound, refusal}
 use Rattle.outcomes.proofs.Seating.{waits-seated}
 use Rattle.outcomes.specs.declared.Unjoined.{Unjoined}
 use Rattle.outcomes.specs.declared.Unjoined.the-variants.{First, Nothing}
-use Rattle.sheet.specs.Kept.{readText, SheetHeld, SheetReply, IsFair, FairReply, checked, IsAccepted, AcceptReply}
+use Rattle.sheet.specs.Kept.{SheetHeld, SheetReply, IsFair, FairReply, checked, IsAccepted, AcceptReply}
 use Rattle.sheet.specs.declared.FairRead.{FairRead}
 use Rattle.sheet.specs.declared.FairRead.the-variants as FairRead
 use Rattle.sheet.specs.declared.SheetRead.{SheetRead}
@@ -93,7 +93,7 @@ module _ (s : Sheet) (r : FairRead) (a : AcceptReply s r) where
   unfolding judged
   judged-refused v e = sym (ap judged (subst (AcceptReply s) e a))
 
-  pub judged-accepted : (count moves waits : ℕ) → r ≡ FairRead.Got count → moves ≡ moveCount s → waits ≡ waitCount s → Accepted moves waits count ≡ judged (checked s)
+  pub judged-accepted : (count moves waits : ℕ) → r ≡ FairRead.Got count → moves ≡ moveCount s → waits ≡ waitCount s → Accepted (record { moves = moves; waits = waits; outcomes = count }) ≡ judged (checked s)
   unfolding judged
   judged-accepted count moves waits e m w =
       let i : IsAccepted s count = subst (AcceptReply s) e a in
@@ -127,7 +127,7 @@ refused-of t after v r h e = subst (λ (z : SheetRead). SheetReply t z after) e 
 
 -- judge itself: with any workspace that is long enough the verdict is the same
 pub judge-short : (ws : List ℕ) (t : Bytes) → length ws < leastWorkspace → JudgeKept ws t SmallWorkspace ws
-unfolding judge judged accepted read refuseIf workspaceAfter _>>=_
+unfolding judge judged accepted read readText refuseIf workspaceAfter _>>=_
 judge-short ws t h = record { reply = sym (rw (lt-ltb (length ws) leastWorkspace h)); memory = sym (rw (lt-ltb (length ws) leastWorkspace h)) }
 
 pub judge-long : (ws : List ℕ) (t : Bytes) (v : Verdict) (after : List ℕ) → leastWorkspace ≤ length ws → v ≡ judge leastWorkspace t

@@ -9,7 +9,7 @@ use Rattle.rules.specs.Tree.{Sheet, moveCount, waitCount}
 use Rattle.rules.specs.Outcomes.{outcomeCount}
 use Rattle.rules.specs.Board.{smallest}
 use Rattle.rules.specs.Answering.{start, answered, isEmpty}
-use Rattle.rules.specs.Entries.{judge, judged, JudgeKept, play, playShown, workspaceAfter, roomAfter}
+use Rattle.rules.specs.Entries.{counts, judge, judged, JudgeKept, play, playShown, workspaceAfter, roomAfter}
 use Rattle.rules.specs.Promise.{Ruled, MovesToEmpty}
 use Rattle.rules.specs.Samples.{sheet, P1, p1}
 use Rattle.rules.specs.Computed.{p1-accepted}
@@ -25,12 +25,12 @@ abbrev pub lent : List ℕ
 lent = replicate leastWorkspace 0
 
 -- judge returns that it accepts P1
-pub p1-judged : JudgeKept lent (sheet P1) (Accepted (moveCount p1) (waitCount p1) (outcomeCount p1)) (workspaceAfter lent)
+pub p1-judged : JudgeKept lent (sheet P1) (Accepted (counts p1)) (workspaceAfter lent)
 unfolding judge judged
 p1-judged = record { reply = rw (length-replicate {A = ℕ} leastWorkspace 0, p1-accepted) refl; memory = refl }
 
-pub p1-promised : Promised (sheet P1) (waitCount p1)
-p1-promised = covers-play lent (sheet P1) (moveCount p1) (waitCount p1) (outcomeCount p1) (workspaceAfter lent) p1-judged
+pub p1-promised : Promised (sheet P1) (counts p1 .waits)
+p1-promised = covers-play lent (sheet P1) (counts p1) (workspaceAfter lent) p1-judged
 
 -- the promise is P1's
 same-sheet : p1-promised .sheet ≡ p1

@@ -13,7 +13,7 @@ use Rattle.rules.specs.Board.{listed}
 use Rattle.rules.specs.Tree.{Sheet, stone}
 use Rattle.rules.specs.Reading.{Result, refused, got}
 use Rattle.rules.specs.Outcomes.{outcomes, outcomeCount, outcomesOfWaits}
-use Rattle.rules.specs.Entries.{_>>=_, refuseIf, read, fair, outcomeCells, OutcomeReply, named, outcome, outcomeShown, workspaceAfter, roomAfter, OutcomeKept}
+use Rattle.rules.specs.Entries.{_>>=_, refuseIf, readText, read, fair, outcomeCells, OutcomeReply, named, outcome, outcomeShown, workspaceAfter, roomAfter, OutcomeKept}
 use Rattle.rules.specs.declared.Board.{Board}
 use Rattle.rules.specs.declared.Named.{Named}
 use Rattle.rules.specs.declared.Verdict.{Verdict}
@@ -23,7 +23,7 @@ use Rattle.cells.specs.Cells.{held, Listed}
 use Rattle.cells.proofs.Smallest.{listed-same}
 use Rattle.nodes.specs.Sheets.{HoldsSheet}
 use Rattle.outcomes.specs.Picking.{MovePick, SomeMovePick, MovePicked}
-use Rattle.sheet.specs.Kept.{readText, IsFair}
+use Rattle.sheet.specs.Kept.{IsFair}
 use Rattle.sheet.specs.Naming.{listing, naming, HasOutcome, SomeOutcome, NamedKept}
 use Rattle.sheet.proofs.Accepting.{sheet-weighed}
 
@@ -108,7 +108,7 @@ module _ (t : Bytes) (i room : ℕ) where
 -- outcome itself
 pub outcome-short : (ws : List ℕ) (t : Bytes) (i : ℕ) (room : List ℕ) (r : Named) → length ws < leastWorkspace → r ≡ outcomeShown (named (refused SmallWorkspace))
     → OutcomeKept ws t i room r ws room
-unfolding outcome read refuseIf workspaceAfter roomAfter named _>>=_
+unfolding outcome read readText refuseIf workspaceAfter roomAfter named _>>=_
 outcome-short ws t i room r h e =
     record {
       reply = e ∙ sym (rw (lt-ltb (length ws) leastWorkspace h));

@@ -12,7 +12,7 @@ use Rattle.rules.specs.Text.{Bytes}
 use Rattle.rules.specs.Tree.{Sheet}
 use Rattle.rules.specs.Reading.{Result, refused, got}
 use Rattle.rules.specs.Answering.{start}
-use Rattle.rules.specs.Entries.{_>>=_, refuseIf, read, accepted, rounds, PlayReply, refusedPlay, playedOut, playOn, play, playShown, workspaceAfter, roomAfter, PlayKept}
+use Rattle.rules.specs.Entries.{_>>=_, refuseIf, readText, read, accepted, rounds, PlayReply, refusedPlay, playedOut, playOn, play, playShown, workspaceAfter, roomAfter, PlayKept}
 use Rattle.rules.specs.declared.Board.{Board}
 use Rattle.rules.specs.declared.Player.{Player}
 use Rattle.rules.specs.declared.Played.{Played}
@@ -22,7 +22,7 @@ use Rattle.answering.specs.Playing.{Playable, PlaysMoves, asPlayed}
 use Rattle.answering.specs.declared.PlayedOut.{PlayedOut}
 use Rattle.answering.specs.declared.PlayedOut.the-variants as out
 use Rattle.answering.proofs.Held.{held-playable, was-stopped, entry-reply, entry-played}
-use Rattle.sheet.specs.Kept.{readText, SheetHeld, checked, IsAccepted, AcceptReply}
+use Rattle.sheet.specs.Kept.{SheetHeld, checked, IsAccepted, AcceptReply}
 use Rattle.sheet.specs.Playing.{PlayedKept, Copied}
 use Rattle.sheet.specs.declared.FairRead.{FairRead}
 use Rattle.sheet.specs.declared.FairRead.the-variants as FairRead

@@ -9,20 +9,30 @@ use Rattle.rules.specs.Text.{Bytes}
 use Rattle.rules.specs.Tree.{Sheet}
 use Rattle.rules.specs.Reading.{got}
 use Rattle.rules.specs.Answering.{isOver}
-use Rattle.rules.specs.Entries.{PlayReply, accepted, playShown, roomAfter}
+use Rattle.rules.specs.Entries.{counts, PlayReply, accepted, playShown, roomAfter}
 use Rattle.rules.specs.Plain.{IsSheet}
 use Rattle.rules.specs.declared.Played.{Played}
 use Rattle.rules.specs.declared.Verdict.the-variants.{Done}
 use Rattle.rules.proofs.Tests.{true-of}
 use Rattle.rules.proofs.Given.{accepted-exactly}
 use Rattle.rules.proofs.Refusals.{accepted-reply}
-use Rattle.rules.proofs.Cover.{demand-3, demand-3-joined, demand-3-played, demand-3-each}
+use Rattle.rules.proofs.Cover.{demand-3}
 use Rattle.sheet.specs.Promise.{PlayKeeps, PlayEnds, CoversPlay}
 
 -- another workspace that suffices changes nothing
 in-another : (w v : ℕ) (t : Bytes) (s : Sheet) → leastWorkspace ≤ v → IsSheet w t s → IsSheet v t s
 in-another w v t s l h =
-    record { sizes = record { enough = l; short = h .sizes .short }; reads = h .reads; apart = h .apart; elusive = h .elusive; few = h .few; satisfying = h .satisfying }
+    let f = h .fair in
+    record {
+      fair =
+          record {
+            read = record { sizes = record { enough = l; short = f .read .sizes .short }; spells = f .read .spells };
+            apart = f .apart;
+            elusive = f .elusive;
+            few = f .few;
+          };
+      satisfying = h .satisfying;
+    }
 
 module _ (t : Bytes) (s : Sheet) (h : IsSheet leastWorkspace t s) where
   accepted-in : (w : ℕ) → leastWorkspace ≤ w → accepted w t ≡ got s
@@ -34,8 +44,8 @@ module _ (t : Bytes) (s : Sheet) (h : IsSheet leastWorkspace t s) where
       let w = length (p .workspace) in
       let k = p .kept in
       let a = accepted-in w (p .enough) in
-      let d = demand-3-played w t s a moves g ruled (length room) (p .room-enough) in
-      let c = demand-3 w t s a moves g ruled in
+      let cover = demand-3 w t s a in
+      let d = cover .plays moves g ruled (length room) (p .room-enough) in
       let written : later ≡ roomAfter (g .answers) room = k .answers ∙ ap (λ (z : PlayReply). roomAfter (z .answers) room) (d .reply) in
       let there : (place : ℕ) → place < length moves → getD later place 0 ≡ getD (g .answers) place 0 =
       λ place small. ap (λ (l : List ℕ). getD l place 0) written ∙ List·getD-append (g .answers) _ 0 place (omega (arith, small, d .one-each))
@@ -44,9 +54,7 @@ module _ (t : Bytes) (s : Sheet) (h : IsSheet leastWorkspace t s) where
         reply = k .reply ∙ ap playShown (d .reply) ∙ shown (d .one-each);
         one-each = d .one-each;
         written = written;
-        each = λ place small. rw (there place small) (demand-3-each w t s a moves g ruled place small);
-        covered = c .0;
-        answered = c .1;
+        each = λ place small. rw (there place small) (cover .each-answer moves g ruled place small);
       }
     where
       shown : length (g .answers) ≡ length moves
@@ -55,7 +63,7 @@ module _ (t : Bytes) (s : Sheet) (h : IsSheet leastWorkspace t s) where
 
   play-ends : PlayEnds t s
   play-ends opponent to-empty =
-      let j = demand-3-joined leastWorkspace t s (accepted-in leastWorkspace (omega arith)) opponent to-empty in
+      let j = demand-3 leastWorkspace t s (accepted-in leastWorkspace (omega arith)) .is-joined opponent to-empty in
       record {
         end = j;
         plays =
@@ -65,7 +73,14 @@ module _ (t : Bytes) (s : Sheet) (h : IsSheet leastWorkspace t s) where
       }
 
 pub covers-play : CoversPlay
-covers-play ws t m n o after k =
-    let a = accepted-reply (length ws) t m n o .0 (sym (k .reply)) in
+covers-play ws t n after k =
+    let a = accepted-reply (length ws) t n .0 (sym (k .reply)) in
     let h = in-another (length ws) leastWorkspace t (a .sheet) (omega arith) (a .is-sheet) in
-    record { sheet = a .sheet; is-sheet = h; waits-are = a .waits-are; plays = play-keeps t (a .sheet) h; ends = play-ends t (a .sheet) h }
+    record {
+      sheet = a .sheet;
+      is-sheet = h;
+      waits-are = unfold counts in ap (λ (z : Counts). z .waits) (a .counts-are);
+      cover = demand-3 leastWorkspace t (a .sheet) (accepted-in t (a .sheet) h leastWorkspace (omega arith));
+      plays = play-keeps t (a .sheet) h;
+      ends = play-ends t (a .sheet) h;
+    }

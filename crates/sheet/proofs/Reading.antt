@@ -11,12 +11,13 @@ use Rattle.rules.specs.Sizes.{mostBytes, leastWorkspace}
 use Rattle.rules.specs.Text.{Bytes}
 use Rattle.rules.specs.Lines.{Header, headerLine}
 use Rattle.rules.specs.Reading.{refused, readBody, headed, readSheet}
-use Rattle.rules.specs.Entries.{_>>=_, refuseIf}
+use Rattle.rules.specs.Entries.{_>>=_, refuseIf, readText}
+use Rattle.rules.specs.Unread.{BoardSize}
 use Rattle.rules.specs.declared.Board.{Board}
 use Rattle.rules.specs.declared.Player.{Player}
 use Rattle.rules.specs.declared.Verdict.{Verdict}
 use Rattle.rules.specs.declared.Verdict.the-variants.{LongText, BadHeader}
-use Rattle.rules.proofs.Reading.{BoardSize, header-size}
+use Rattle.rules.proofs.Lines.{header-is}
 use Rattle.rules.proofs.WellRead.{well-read}
 use Rattle.cells.specs.Cells.{Fits}
 use Rattle.nodes.specs.Nodes.{aMove, nodesOfWaits}
@@ -27,7 +28,7 @@ use Rattle.lines.specs.Seen.{Reads}
 use Rattle.reading.specs.Kept.{BodyReady, BodyStands, BodyReply, BodyKept}
 use Rattle.reading.specs.declared.BodyRead.{BodyRead}
 use Rattle.reading.specs.declared.BodyRead.the-variants as BodyRead
-use Rattle.sheet.specs.Kept.{readText, SheetHeld}
+use Rattle.sheet.specs.Kept.{SheetHeld}
 
 -- the part of a text from a place on
 pub part-within : (s : Bytes) (at : ℕ) → length (take (length s - at) (drop at s)) ≤ length s
@@ -61,7 +62,7 @@ module _ (t : Bytes) (short : length t ≤ mostBytes) where
     header-fits : Fits b
     unfolding BoardSize
     header-fits =
-        let z = header-size t (record { board = b; player = p }, body) (sym e) in
+        let z = header-is t (record { board = b; player = p }, body) (sym e) .1 in
         record { some-column = z .0 .0; few-columns = omega (arith, z .0 .1); some-row = z .1 .0; few-rows = omega (arith, z .1 .1) }
 
     pub body-ready : (table : List ℕ) → length body ≤ length t → length table ≡ leastWorkspace → BodyReady b body table

@@ -2,28 +2,19 @@
 use mathlib.Core.Path.{_≡_}
 use Prim.Native.Nat.{ℕ, _≤_}
 use mathlib.Core.List.{List}
-use lib.Dec.{ltb}
-use lib.ListN.{length}
-use Rattle.rules.specs.Sizes.{mostBytes, mostOutcomes}
+use Rattle.rules.specs.Sizes.{mostOutcomes}
 use Rattle.rules.specs.Text.{Bytes}
 use Rattle.rules.specs.Tree.{Sheet}
-use Rattle.rules.specs.Reading.{Result, refused, got, readSheet}
+use Rattle.rules.specs.Reading.{Result, refused, got}
 use Rattle.rules.specs.Outcomes.{outcomeCount}
-use Rattle.rules.specs.Entries.{_>>=_, refuseIf, fair, satisfying}
+use Rattle.rules.specs.Entries.{_>>=_, readText, fair, satisfying}
 use Rattle.rules.specs.declared.Board.{Board}
 use Rattle.rules.specs.declared.Player.{Player}
-use Rattle.rules.specs.declared.Verdict.the-variants.{LongText}
 use Rattle.nodes.specs.Sheets.{HoldsSheet}
 use Rattle.sheet.specs.declared.SheetRead.{SheetRead}
 use Rattle.sheet.specs.declared.SheetRead.the-variants as SheetRead
 use Rattle.sheet.specs.declared.FairRead.{FairRead}
 use Rattle.sheet.specs.declared.FairRead.the-variants as FairRead
-
--- 2, and then the reading's refusals
-unfoldable pub readText : Bytes → Result Sheet
-readText t = do
-  _ ← refuseIf (ltb mostBytes (length t)) LongText
-  readSheet t
 
 -- the text reads as a sheet, which the table holds
 pub record SheetHeld (text : Bytes) (t : List ℕ) (b : Board) (p : Player) : Type 0 where

@@ -33,6 +33,7 @@ use outcomes::pick_move;
 use reading::BodyRead;
 use reading::read_body;
 use rules::Board;
+use rules::Counts;
 use rules::Named;
 use rules::Played;
 use rules::Player;
@@ -162,9 +163,11 @@ fn judge_table(table: &[u32], board: Board, player: Player) -> Verdict
             let moves = count_moves(table);
             let waits = end_at(table, 0) - moves;
             Verdict::Accepted {
-                moves: moves as u32,
-                waits: waits as u32,
-                outcomes,
+                counts: Counts {
+                    moves: moves as u32,
+                    waits: waits as u32,
+                    outcomes,
+                },
             }
         }
     }

@@ -14,7 +14,7 @@ use Rattle.sorbitanque.specs.Details.{seven, judgeDetails, JudgeTold, pl
 
 module _ {workspace workspace′ : List ℕ} {t : Bytes} where
   pub judge-told : {v : Verdict} {r : Told} → JudgeKept workspace t v workspace′ → r ≡ told v
-      → JudgeTold workspace t workspace′ (seven r (r .moves) (r .waits) (r .outcomes))
+      → JudgeTold workspace t workspace′ (seven r (r .counts .moves) (r .counts .waits) (r .counts .outcomes))
   unfolding judgeDetails
   judge-told k e = record { reply = rw (e, k .reply); memory = k .memory }
 

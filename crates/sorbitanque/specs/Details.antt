@@ -16,7 +16,7 @@ seven t x y z = t .number ∷ t .line ∷ t .cell ∷ t .index ∷ x ∷ y ∷ z
 
 -- judge: moves, waits, outcomes
 unfoldable pub judgeDetails : Verdict → List ℕ
-judgeDetails v = seven (told v) (told v .moves) (told v .waits) (told v .outcomes)
+judgeDetails v = seven (told v) (told v .counts .moves) (told v .counts .waits) (told v .counts .outcomes)
 
 -- play: the place of the refused move, the number of answers, and 1 where play is over
 unfoldable pub playDetails : PlayReply → List ℕ

@@ -13,14 +13,15 @@ pub extern "C" fn sorbitanque_judge(sheet: &[u8], workspace: &mut [u32], details
     ensures { λ _. ⌜ JudgeTold (now (workspace .entry)) (now (sheet .entry)) (now (workspace .exit)) (now (details .exit)) ⌝ }
 {
     let told = tell(judge(sheet, workspace));
+    let counts = told.counts;
     *details = [
         told.number,
         told.line,
         told.cell,
         told.index,
-        told.moves,
-        told.waits,
-        told.outcomes,
+        counts.moves,
+        counts.waits,
+        counts.outcomes,
     ];
 }
 

@@ -12,8 +12,9 @@ use Rattle.rules.specs.Board.{isCell}
 use Rattle.rules.specs.Tree.{stone}
 use Rattle.rules.specs.Words.{among}
 use Rattle.rules.specs.Reading.{got}
+use Rattle.rules.proofs.Places.{cell-range}
 use Rattle.cells.specs.Cells.{held}
-use Rattle.cells.proofs.Places.{cell-range, few-cells}
+use Rattle.cells.proofs.Places.{few-cells}
 use Rattle.answering.specs.Rows.{Remarked}
 use Rattle.answering.specs.Playing.{Playable, refusalOf, checked}
 use Rattle.answering.proofs.Rows.{remarked-self, same-back, remarked-twice, at-ended}

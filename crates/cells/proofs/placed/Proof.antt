@@ -5,7 +5,7 @@ use Prim.Native.Nat.{_-_}
 use native.Mathlib.Nat.{mod-le, div-le-self, le-trans}
 use native.Mathlib.Omega.{arith}
 use Rattle.rules.specs.Board.{columnOf, rowOf}
-use Rattle.cells.proofs.Places.{cell-range, cell-place}
+use Rattle.rules.proofs.Places.{cell-range, cell-place}
 use Rattle.cells.proofs.placed.Statement.{statement}
 use Rattle.cells.proofs.placed.Tie as tie
 
@@ -28,7 +28,7 @@ returns : tie.Need-returns
 unfolding columnOf rowOf
 returns c =
     let f = c .pre .0 in
-    let o = cell-place (c .args .board) (c .args .cell) f (c .pre .1) in
+    let o = cell-place (c .args .board) (c .args .cell) (f .some-column) (c .pre .1) in
     record { column-is = refl; row-is = refl; few-columns = le-trans (o .right) (f .few-columns); few-rows = le-trans (o .bottom) (f .few-rows) }
 
 pub placed-spec : {M : Type 1} → statement M

@@ -1,7 +1,6 @@
 -- Each node passed has no faulty cell; the first that has one is found.
-use mathlib.Core.Path.{ap, _∙_}
-use mathlib.Core.Option.{some}
-use Prim.Native.Nat.{ℕ, _-_, _≤_}
+use mathlib.Core.Path.{_∙_}
+use Prim.Native.Nat.{_-_, _≤_}
 use native.Mathlib.Omega.{arith}
 use Rattle.nodes.proofs.Table.{node-end}
 use Rattle.nodes.proofs.Sheets.{sheet-fits, sheet-stands, sheet-end}
@@ -29,23 +28,18 @@ faulty-at-requires c κs =
 least-requires : tie.Need-least-requires Inv-loop μ-loop
 least-requires c κs = sheet-fits (c .before .before .before .before .before .pre .held)
 
-line-of-requires : tie.Need-line-of-requires Inv-loop μ-loop
-line-of-requires c κs =
+cast-t9 : tie.Need-cast-t9 Inv-loop μ-loop
+cast-t9 c =
     let s = c .before .before .before .before .before .before .before .pre in
-    omega (arith, c .before .before .before .before .before .end-at .ensures, sheet-end (s .held), node-end (sheet-stands (s .held)), s .held .long)
-
-cast-t10 : tie.Need-cast-t10 Inv-loop μ-loop
-cast-t10 c =
-    let s = c .before .before .before .before .before .before .before .before .pre in
-    let e = c .before .before .least .ensures in
-    omega (arith, e, smallest-low _ _ (sheet-fits (s .held)) (λ z. c .before .if1 .taken (e ∙ z)))
+    let e = c .before .least .ensures in
+    omega (arith, e, smallest-low _ _ (sheet-fits (s .held)) (λ z. c .if1 .taken (e ∙ z)))
 
 returns : tie.Need-returns Inv-loop μ-loop
 returns c = λ s h.
-    let l = c .before .before .before .before .before .loop in
-    let cell = c .before .before .least in
-    ap (λ (n : ℕ). some (record { line = n; cell = cell .result })) (c .line-of .ensures)
-    ∙ search-found (l .inv .1) (omega arith) _ (c .before .before .before .faulty-at .ensures) _ (cell .ensures) (c .before .if1 .taken) s h
+    let l = c .before .before .before .before .loop in
+    let end = c .before .before .before .before .before .end-at .ensures in
+    search-found (l .inv .1) (omega arith) _ (c .before .before .faulty-at .ensures) _ (c .before .least .ensures) (c .if1 .taken) s h
+    (omega (arith, end, sheet-end h, node-end (sheet-stands h), h .long))
 
 add-i : tie.Need-add-i Inv-loop μ-loop
 add-i c = omega arith
@@ -71,8 +65,7 @@ first-fault-spec =
     loop-holds
     faulty-at-requires
     least-requires
-    line-of-requires
-    cast-t10
+    cast-t9
     returns
     add-i
     loop-less

@@ -5,7 +5,7 @@ use native.Mathlib.Nat.{pos-of-ne-zero}
 use lib.Dec.{eqb}
 use Rattle.cells.specs.Cells.{held}
 use Rattle.rules.specs.Board.{cells}
-use Rattle.cells.proofs.Places.{range-cell}
+use Rattle.rules.proofs.Places.{range-cell}
 use Rattle.nodes.proofs.Collecting.{no-stone, stone-cell}
 use Rattle.nodes.proofs.with_stone.Statement.{statement}
 use Rattle.nodes.proofs.with_stone.Tie as tie

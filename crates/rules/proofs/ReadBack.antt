@@ -1,19 +1,21 @@
--- What is printed is read back: rules' reader of a number reads the decimal of n as n, up to its end.
-use mathlib.Core.Path.{_≡_, refl, sym, ap, _∙_}
+-- A number's text and its reader: the reader reads the decimal of n as n, up to its end, and what it read as n is the decimal of n.
+use mathlib.Core.Path.{_≡_, refl, sym, ap, subst, _∙_}
 use Prim.Native.Nat.{ℕ, zero, suc, _+_, _*_, _-_, _/_, _%_, _<_, _≤_}
-use mathlib.Core.Bool.{Bool, true, false}
-use mathlib.Core.List.{[], _∷_, _++_, append-nil}
+use mathlib.Core.Bool.{Bool, true, false, false≢true}
+use mathlib.Core.List.{[], _∷_, _++_, append-nil, append-assoc}
 use mathlib.Core.Option.{some}
 use mathlib.Core.Logic.{⊎-elim}
 use native.Mathlib.Nat.{eq-zero-or-pos}
 use native.Mathlib.Omega.{arith}
-use lib.Dec.{eqb}
+use lib.Dec.{eqb, leb, leb→le}
 use lib.ListN.{take}
 use lib.Seq.{take-nil}
-use borrow.Author.Tests.{le-leb, ne-eqb}
+use borrow.Author.Tests.{le-leb, ne-eqb, eqb-false, not-true}
 use Rattle.rules.specs.Text.{Bytes, isDigit, digits, afterDigits, spelled, wellSpelled, number}
-use Rattle.report.specs.Decimal.{decimal}
-use Rattle.report.proofs.Decimal.{decimal-low, decimal-high, by-tens, Every, every-tail, Digit, decimal-digits}
+use Rattle.rules.specs.Decimal.{decimal}
+use Rattle.rules.proofs.Decimal.{decimal-low, decimal-high, by-tens, Every, every-none, every-more, every-tail, Digit, decimal-digits}
+use Rattle.rules.proofs.Tests.{holds-of, fst, snd}
+use Rattle.rules.proofs.Steps.{none≢some, some-inj}
 
 -- digits are passed over whole, whatever text follows them
 passed : (ds t : Bytes) → Every Digit ds → (digits (ds ++ t) ≡ ds ++ digits t) × (afterDigits (ds ++ t) ≡ afterDigits t)
@@ -93,3 +95,52 @@ unfolding number
 read-back n rest e =
     let p = passed (decimal n) rest (decimal-digits n) in
     rw (p .0, p .1, e, no-digits rest e, append-nil (decimal n), decimal-well n, decimal-spells n)
+
+-- the other way: digits spell a number whose decimal they are
+spells-on : (n : ℕ) (ds : Bytes) → 0 < n → Every Digit ds → decimal (spelled n ds) ≡ decimal n ++ ds
+unfolding spelled
+spells-on n [] h p = rw append-nil
+spells-on n (d ∷ ds) h p =
+    let e = p .each 0 (omega arith) in
+    let m = n * 10 + (d - 48) in
+    let q : m / 10 ≡ n = omega arith in
+    let r : 48 + m % 10 ≡ d = omega arith in
+    spells-on m ds (omega arith) (every-tail p) ∙ rw (decimal-high m (omega arith), q, r, append-assoc)
+
+spells-decimal : (ds : Bytes) → Every Digit ds → wellSpelled ds ≡ true → decimal (spelled 0 ds) ≡ ds
+unfolding spelled wellSpelled
+spells-decimal [] p w = absurd (false≢true w)
+spells-decimal (d ∷ []) p w =
+    let e = p .each 0 (omega arith) in
+    let n : 48 + (0 * 10 + (d - 48)) ≡ d = omega arith in
+    decimal-low (0 * 10 + (d - 48)) (omega arith) ∙ ap (λ (b : ℕ). b ∷ []) n
+spells-decimal (d ∷ f ∷ ds) p w =
+    let e = p .each 0 (omega arith) in
+    let n : 48 + (0 * 10 + (d - 48)) ≡ d = omega arith in
+    spells-on (0 * 10 + (d - 48)) (f ∷ ds) (omega (arith, eqb-false d 48 (not-true (eqb d 48) w))) (every-tail p) ∙ rw (decimal-low (0 * 10 + (d - 48)) (omega arith), n)
+
+is-digit : (b : ℕ) → isDigit b ≡ true → Digit b
+unfolding isDigit
+is-digit b e = record { least = leb→le 48 b (fst (leb 48 b) (leb b 57) (holds-of e)); most = leb→le b 57 (snd (leb 48 b) (leb b 57) (holds-of e)) }
+
+-- a text is its digits and what follows them
+split-digits : (t : Bytes) → Every Digit (digits t) × (t ≡ digits t ++ afterDigits t)
+unfolding digits afterDigits
+split-digits [] = (every-none, refl)
+split-digits (b ∷ t) = go (isDigit b) refl (split-digits t)
+  where
+    go : (d : Bool) → isDigit b ≡ d → Every Digit (digits t) × (t ≡ digits t ++ afterDigits t)
+        → Every Digit (digits (b ∷ t)) × (b ∷ t ≡ digits (b ∷ t) ++ afterDigits (b ∷ t))
+    go true f r = rw f (every-more (is-digit b f) (r .0), ap (λ (l : Bytes). b ∷ l) (r .1))
+    go false f r = rw f (every-none, refl)
+
+-- what was read is the number's decimal, before what is left
+pub number-is : (t : Bytes) (y : ℕ × Bytes) → number t ≡ some y → t ≡ decimal (y .0) ++ y .1
+unfolding number
+number-is t y e = go (wellSpelled (digits t)) refl
+  where
+    go : (w : Bool) → wellSpelled (digits t) ≡ w → t ≡ decimal (y .0) ++ y .1
+    go true f =
+        let d = split-digits t in
+        subst (λ (z : ℕ × Bytes). t ≡ decimal (z .0) ++ z .1) (some-inj (rw f at e)) (rw (spells-decimal (digits t) (d .0) f) (d .1))
+    go false f = absurd (none≢some (rw f at e))

@@ -6,8 +6,8 @@ use mathlib.Core.Logic.{⊎-elim}
 use native.Mathlib.Nat.{eq-zero-or-pos, pow-suc}
 use native.Mathlib.Omega.{arith}
 use lib.ListN.{length, getD, length-append}
 use Rattle.rules.specs.Text.{Bytes}
-use Rattle.report.specs.Decimal.{leading, decimal}
+use Rattle.rules.specs.Decimal.{leading, decimal}
 
 -- room for more digits than there are changes nothing
 leading-same : (a b n : ℕ) → n ≤ a → n ≤ b → leading a n ≡ leading b n

@@ -1,0 +1,84 @@
+-- "Three entries", 3 to 9, in plain words: how far a text is a sheet's, and what is wrong there. Nothing is read here: a text is
+-- compared with what is written.
+use mathlib.Core.Path.{_≡_}
+use mathlib.Core.Logic.{_≢_}
+use Prim.Native.Nat.{ℕ, zero, suc, _+_, _≤_, _<_}
+use mathlib.Core.List.{List, [], _∷_, _++_}
+use mathlib.Core.Option.{none, some}
+use lib.Dec.{T}
+use Rattle.rules.specs.Sizes.{largest, highestRow, mostUnder, mostNodes, mostDepth}
+use Rattle.rules.specs.Text.{Bytes}
+use Rattle.rules.specs.Lines.{Place, Line}
+use Rattle.rules.specs.Written.{writtenHeader, writtenMove, writtenWait}
+use Rattle.rules.specs.Reading.{within}
+use Rattle.rules.specs.declared.Board.{Board}
+use Rattle.rules.specs.declared.Player.{Player}
+use Rattle.rules.specs.declared.Verdict.{Verdict}
+use Rattle.rules.specs.declared.Verdict.the-variants.{BadHeader, BadLine, OffBoard, TooManyNodes, TooDeep, Unfinished, TextAfter}
+
+-- a board has 1 to 13 columns and 1 to 13 rows
+unfoldable pub BoardSize : Board → Type 0
+BoardSize b = ((1 ≤ b .columns) × (b .columns ≤ largest)) × ((1 ≤ b .rows) × (b .rows ≤ largest))
+
+-- a place that can be written: a letter and a number 1 to 99
+pub record Nameable (p : Place) : Type 0 where
+  pub letters : (1 ≤ p .column) × (p .column ≤ 26)
+  pub rows : (1 ≤ p .row) × (p .row ≤ highestRow)
+
+-- the first node is a move; under a move stand waits, under a wait moves
+pub data Kind : Type 0 where
+  firstMove : Kind
+  aMove : Kind
+  aWait : Kind
+
+unfoldable pub kindUnder : Kind → Kind
+kindUnder firstMove = aWait
+kindUnder aMove = aWait
+kindUnder aWait = aMove
+
+-- A well-formed line of a kind, with its line feed: its text, and what it says. A move: `m`, cell, number of waits under it (0
+-- to 2047); only the first node may have `-` instead. A wait: `w`, number of moves under it (1 to 2047)
+pub data IsLine : Kind → Bytes → Line → Type 0 where
+  of-move : (p : Place) (n : ℕ) → Nameable p → n ≤ mostUnder → IsLine aMove (writtenMove (some p) n) (record { place = some p; under = n })
+  of-first : (p : Place) (n : ℕ) → Nameable p → n ≤ mostUnder → IsLine firstMove (writtenMove (some p) n) (record { place = some p; under = n })
+  of-dash : (n : ℕ) → n ≤ mostUnder → IsLine firstMove (writtenMove none n) (record { place = none; under = n })
+  of-wait : (n : ℕ) → 1 ≤ n → n ≤ mostUnder → IsLine aWait (writtenWait n) (record { place = none; under = n })
+
+-- A node that is due, which is still to come: its kind and its depth
+pub record Due : Type 0 where
+  pub kind : Kind
+  pub depth : ℕ
+
+-- what is due after a node's line: the n nodes right under it, then what was due after the node
+unfoldable pub dueAfter : Due → (n : ℕ) → List Due → List Due
+dueAfter d zero ds = ds
+dueAfter d (suc n) ds = record { kind = kindUnder (d .kind); depth = suc (d .depth) } ∷ dueAfter d n ds
+
+-- How far a text is a sheet's: it begins with line 1, then with the lines of n nodes in preorder, all as they should be; these
+-- nodes are due then, and this text is left. (So the next line's number is n + 2, and the tree is unfinished while a node is due.)
+pub data Begins (t : Bytes) (b : Board) : (n : ℕ) → List Due → (left : Bytes) → Type 0 where
+  after-header : (p : Player) (left : Bytes) → BoardSize b → t ≡ writtenHeader b p ++ left
+      → Begins t b 0 (record { kind = firstMove; depth = 1 } ∷ []) left
+  after-line : (n : ℕ) (d : Due) (ds : List Due) (line left : Bytes) (l : Line) → Begins t b n (d ∷ ds) (line ++ left) → IsLine (d .kind) line l
+      → n < mostNodes → d .depth ≤ mostDepth → T (within b (l .place)) → Begins t b (n + 1) (dueAfter d (l .under) ds) left
+
+-- The table's "given exactly when" for 3 to 9. The order is 8 or 9 where they apply, else 6, 4, 7, 5
+pub data Unread (t : Bytes) : Verdict → Type 0 where
+  -- 3: line 1 not a header as above (empty text too)
+  no-header : ((b : Board) (p : Player) (left : Bytes) → BoardSize b → t ≢ (writtenHeader b p ++ left)) → Unread t BadHeader
+  -- 4: a node line malformed, of the wrong kind, or without its line feed
+  no-line : (b : Board) (n : ℕ) (d : Due) (ds : List Due) (left : Bytes) → Begins t b n (d ∷ ds) left → left ≢ [] → n < mostNodes
+      → ((line after : Bytes) (l : Line) → IsLine (d .kind) line l → left ≢ (line ++ after)) → Unread t (BadLine (n + 2))
+  -- 5: a cell off the board
+  off-board : (b : Board) (n : ℕ) (d : Due) (ds : List Due) (line after : Bytes) (l : Line) → Begins t b n (d ∷ ds) (line ++ after)
+      → IsLine (d .kind) line l → n < mostNodes → d .depth ≤ mostDepth → (T (within b (l .place)) → ⊥) → Unread t (OffBoard (n + 2))
+  -- 6: a 2,049th node line begins while the tree is unfinished
+  one-too-many : (b : Board) (d : Due) (ds : List Due) (left : Bytes) → Begins t b mostNodes (d ∷ ds) left → left ≢ []
+      → Unread t (TooManyNodes (mostNodes + 2))
+  -- 7: a node at depth 129
+  too-deep : (b : Board) (n : ℕ) (d : Due) (ds : List Due) (line after : Bytes) (l : Line) → Begins t b n (d ∷ ds) (line ++ after)
+      → IsLine (d .kind) line l → n < mostNodes → d .depth ≡ mostDepth + 1 → Unread t (TooDeep (n + 2))
+  -- 8: the text ends and the tree is unfinished
+  text-ends : (b : Board) (n : ℕ) (d : Due) (ds : List Due) → Begins t b n (d ∷ ds) [] → Unread t (Unfinished (n + 2))
+  -- 9: text remains after the tree
+  text-remains : (b : Board) (n : ℕ) (left : Bytes) → Begins t b n [] left → left ≢ [] → Unread t (TextAfter (n + 2))
