@@ -6,8 +6,8 @@ use native.Mathlib.Nat.{eq-zero-or-pos}
 use native.Mathlib.Omega.{arith}
 use mathlib.Core.List.{List}
 use lib.ListN.{length}
-use Rattle.rules.specs.Tree.{Waits, noWaits, wait, Moves, noMoves, move}
-use Rattle.rules.specs.Choice.{the-first, one-later, PlaceIn, cellThere, waitsThere, Choice, taken, andThen, opened}
+use Rattle.rules.specs.Tree.{Waits, noWaits, wait, Moves, noMoves, move, andThen}
+use Rattle.rules.specs.Choice.{the-first, one-later, PlaceIn, cellThere, waitsThere, Choice, taken, opened}
 use Rattle.rules.specs.declared.Board.{Board}
 use Rattle.nodes.specs.Nodes.{aWait, aMove, size, nodesOfWaits, nodesOfMoves}
 use Rattle.nodes.specs.Table.{countIn, Property, Each, first, At}

@@ -49,7 +49,7 @@ module _ {t : List ℕ} {b : Board} {p : Player} {s : Sheet} (h : Playable t b p
   sheet-read : WellRead s
   sheet-read =
       let a = h .is-accepted in
-      accepted-exactly (a .0) (a .1) s .0 (a .2) .reads .well
+      accepted-exactly (a .0) (a .1) s .0 (a .2) .fair .read .spells .well
 
   pub board-fits : Fits b
   board-fits =

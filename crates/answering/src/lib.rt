@@ -5,7 +5,7 @@ ghost use Prim.Native.Nat.{ℕ, _+_, _-_, _*_, _<_, _≤_};
 ghost use lib.ListN.{length};
 ghost use Rattle.rules.specs.Sizes.{mostNodes};
 ghost use Rattle.rules.specs.Tree.{Waits, wait, Moves, Sheet};
-ghost use Rattle.rules.specs.Answering.{PlaceIn, Choice};
+ghost use Rattle.rules.specs.Choice.{PlaceIn, Choice};
 ghost use Rattle.rules.specs.declared.Board as declared;
 ghost use Rattle.cells.specs.Cells.{held, Fits};
 ghost use Rattle.nodes.specs.Nodes.{aMove, Nodes};

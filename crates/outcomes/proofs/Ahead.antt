@@ -6,8 +6,7 @@ use native.Mathlib.Omega.{arith}
 use mathlib.Core.List.{List}
 use lib.ListN.{length}
 use Rattle.rules.specs.declared.Board.{Board}
-use Rattle.rules.specs.Tree.{Waits, noWaits, wait, Moves, noMoves, move}
-use Rattle.rules.specs.Answering.{andThen}
+use Rattle.rules.specs.Tree.{Waits, noWaits, wait, Moves, noMoves, move, andThen}
 use Rattle.rules.specs.Outcomes.{countOfWaits}
 use Rattle.rules.proofs.Places.{cell-range}
 use Rattle.nodes.specs.Nodes.{aWait, aMove, size, nodesOfWaits, nodesOfMoves}

@@ -11,9 +11,8 @@ use Rattle.rules.specs.declared.Board.{Board}
 use Rattle.rules.specs.declared.Player.{Player}
 use Rattle.rules.specs.declared.Verdict.the-variants.{NotJoined}
 use Rattle.rules.specs.Words.{among}
-use Rattle.rules.specs.Tree.{Waits, noWaits, wait, Moves, noMoves, move, stone}
+use Rattle.rules.specs.Tree.{Waits, noWaits, wait, Moves, noMoves, move, stone, andThen}
 use Rattle.rules.specs.Joining.{joined}
-use Rattle.rules.specs.Answering.{andThen}
 use Rattle.rules.specs.Outcomes.{countOfWaits, countOfMoves, eachWithEach, outcomesOfWaits, outcomesOfMoves}
 use Rattle.rules.specs.Reading.{refused, got}
 use Rattle.rules.specs.Entries.{_>>=_, refuseUnjoined}

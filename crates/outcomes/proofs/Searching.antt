@@ -12,9 +12,8 @@ use Rattle.rules.specs.declared.Verdict.the-variants.{NotJoined}
 use Rattle.rules.specs.Sizes.{mostOutcomes}
 use Rattle.rules.specs.Words.{among}
 use Rattle.rules.specs.Board.{cells}
-use Rattle.rules.specs.Tree.{Waits, wait, Moves, noMoves, move, stone}
+use Rattle.rules.specs.Tree.{Waits, wait, Moves, noMoves, move, stone, andThen}
 use Rattle.rules.specs.Joining.{joined}
-use Rattle.rules.specs.Answering.{andThen}
 use Rattle.rules.specs.Outcomes.{countOfWaits, countOfMoves, outcomesOfWaits}
 use Rattle.rules.specs.Reading.{Result, refused, got}
 use Rattle.rules.specs.Entries.{_>>=_, refuseUnjoined}

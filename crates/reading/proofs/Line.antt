@@ -18,6 +18,7 @@ use Rattle.rules.specs.Reading as R
 use Rattle.rules.specs.Reading.{refused, got, within, nodeHere, nodeLine}
 use Rattle.rules.specs.declared.Board.{Board}
 use Rattle.rules.specs.declared.Verdict.the-variants.{BadLine, OffBoard, TooManyNodes, TooDeep, Unfinished}
+use Rattle.rules.proofs.Lists.{not-nil}
 use Rattle.rules.proofs.NodeLine.{LineBegins, LineSeen, sees-end, sees-many, sees-bad, sees-deep, sees-off, sees-line, seen-is}
 use Rattle.lines.specs.Numbered.{numbered}
 use Rattle.lines.specs.declared.Numbered.the-variants.{On}
@@ -41,7 +42,7 @@ module _ (b : Board) (r : Reader Line) (levels : ℕ) (body : Bytes) (s : Spot) 
 
   module _ (h : s .at < length body) where
     some-left : drop (s .at) body ≢ []
-    some-left e = let z : _≡_ {A = Bytes} (getD body (s .at) 0 ∷ drop (suc (s .at)) body) [] = sym (drop-cons body (s .at) 0 h) ∙ e in cc
+    some-left = not-nil (drop-cons body (s .at) 0 h)
 
     pub line-many : s .nodes ≡ mostNodes → comesTo (refused (TooManyNodes (s .line)))
     line-many e = seen _ (sees-many some-left e)

@@ -5,9 +5,9 @@ use mathlib.Core.Logic.{inl, inr}
 use Prim.Native.Nat.{ℕ, zero, suc}
 use lib.Dec.{T, eqb}
 use Rattle.rules.specs.Words.{_∈_, at-head, in-tail, among}
-use Rattle.rules.specs.Tree.{Waits, noWaits, wait, Moves, noMoves, move, stone}
+use Rattle.rules.specs.Tree.{Waits, noWaits, wait, Moves, noMoves, move, stone, andThen}
 use Rattle.rules.specs.Outcomes.{eachWithEach, outcomesOfWaits, outcomesOfMoves}
-use Rattle.rules.specs.Choice.{the-first, one-later, PlaceIn, cellThere, waitsThere, Choice, taken, andThen, opened}
+use Rattle.rules.specs.Choice.{the-first, one-later, PlaceIn, cellThere, waitsThere, Choice, taken, opened}
 use Rattle.rules.proofs.Tests.{left, right, cases}
 use Rattle.rules.proofs.Lists.{in-append, append-left, append-right}
 

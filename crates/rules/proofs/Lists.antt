@@ -1,6 +1,6 @@
 -- Laws of the words of `specs/Words`: lists of numbers as sets, what is kept, the numbers 1 to n.
 use mathlib.Core.Path.{_≡_, refl, ap, subst, subst⁻¹, _∙_}
-use mathlib.Core.Logic.{_⊎_, inl, inr}
+use mathlib.Core.Logic.{_≢_, _⊎_, inl, inr}
 use Prim.Native.Nat.{ℕ, zero, suc, _+_, _≤_}
 use mathlib.Core.Bool.{Bool, true, false, not, _||_}
 use mathlib.Core.List.{List, [], _∷_, _++_}
@@ -10,6 +10,10 @@ use native.Mathlib.Decide.{ℕ-discrete}
 use native.Mathlib.Omega.{arith}
 use Rattle.rules.specs.Words.{if_then_else_, _∈_, at-head, in-tail, among, keep, any, upTo}
 use Rattle.rules.proofs.Tests.{holds-of, left, right, cases}
+
+-- a list with a first element is not empty
+pub not-nil : {A : Type 0} {x : A} {xs ys : List A} → ys ≡ x ∷ xs → ys ≢ []
+not-nil e f = let z : _≡_ {A = ℕ} 0 1 = cc in omega arith
 
 -- keep
 keep-in-step : (p : ℕ → Bool) (x y : ℕ) (ys : List ℕ) (b : Bool) → p y ≡ b → (T (among (keep p ys) x) → T (among ys x) × T (p x))

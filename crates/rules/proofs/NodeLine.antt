@@ -15,6 +15,7 @@ use Rattle.rules.specs.Reading.{Result, refused, got, Spot, go, give, wi
 use Rattle.rules.specs.declared.Board.{Board}
 use Rattle.rules.specs.declared.Verdict.the-variants.{BadLine, OffBoard, TooManyNodes, TooDeep, Unfinished}
 use Rattle.rules.proofs.Tests.{true-of, false-of}
+use Rattle.rules.proofs.Lists.{not-nil}
 
 -- a line begins here, and may
 pub record LineBegins (s : Spot) : Type 0 where
@@ -79,4 +80,4 @@ module _ (b : Board) (r : Reader Line) (levels : ℕ) (s : Spot) where
     where
       go-on : (t : Bytes) → s .text ≡ t → Seen
       go-on [] e = seen-as _ (sees-end e)
-      go-on (c ∷ t) e = counted-seen (λ f. let z : [] ≡ c ∷ t = sym f ∙ e in let k : _≡_ {A = ℕ} 0 1 = cc in omega arith) (eqb (s .nodes) mostNodes) refl
+      go-on (c ∷ t) e = counted-seen (not-nil e) (eqb (s .nodes) mostNodes) refl

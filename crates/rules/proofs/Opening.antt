@@ -7,9 +7,9 @@ use native.Mathlib.Omega.{arith}
 use lib.Dec.{T, eqb, eqb-refl, not-T, T-not}
 use lib.ListN.{length, length-append}
 use Rattle.rules.specs.Words.{oneIf}
-use Rattle.rules.specs.Tree.{Waits, noWaits, wait, Moves, noMoves, move, waitsOfWaits, waitsOfMoves}
+use Rattle.rules.specs.Tree.{Waits, noWaits, wait, Moves, noMoves, move, waitsOfWaits, waitsOfMoves, andThen}
 use Rattle.rules.specs.Fair.{inWaits, inMoves, inMove, holding, inEvery}
-use Rattle.rules.specs.Choice.{the-first, one-later, PlaceIn, cellThere, waitsThere, Choice, taken, andThen, opened}
+use Rattle.rules.specs.Choice.{the-first, one-later, PlaceIn, cellThere, waitsThere, Choice, taken, opened}
 use Rattle.rules.specs.Holder.{waitHolds, moveHolds}
 use Rattle.rules.proofs.Tests.{decide, left, right, cases, nor-left, nor-right, one-yes, one-no}
 

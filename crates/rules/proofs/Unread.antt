@@ -23,7 +23,7 @@ use Rattle.rules.specs.declared.Player.{Player}
 use Rattle.rules.specs.declared.Verdict.{Verdict}
 use Rattle.rules.specs.declared.Verdict.the-variants.{BadHeader, BadLine, OffBoard, TooManyNodes, TooDeep, Unfinished, TextAfter}
 use Rattle.rules.proofs.Tests.{holds-of, false-of, true-of}
-use Rattle.rules.proofs.Lists.{nothing-in}
+use Rattle.rules.proofs.Lists.{nothing-in, not-nil}
 use Rattle.rules.proofs.Steps.{none≢some, some-inj, not-refused, got-inj}
 use Rattle.rules.proofs.Lines.{header-is, header-back, readerOf, LineRead, line-is, line-back}
 use Rattle.rules.proofs.NodeLine.{LineBegins, LineSeen, sees-end, sees-many, sees-bad, sees-deep, sees-off, sees-line, seen-is, line-seen}
@@ -162,9 +162,6 @@ below-most n few ne = go (ltb n mostNodes) refl
     go : (t : Bool) → ltb n mostNodes ≡ t → n < mostNodes
     go true e = ltb-true n mostNodes e
     go false e = absurd (ne (omega (arith, ltb-false n mostNodes e)))
-
-not-nil : {c : ℕ} {t u : Bytes} → u ≡ c ∷ t → u ≢ []
-not-nil e f = let z : _≡_ {A = ℕ} 0 1 = cc in omega arith
 
 -- a node that is due has depth 129 at most
 due-in : (d e : Due) (n : ℕ) (ds : List Due) → e ∈ dueAfter d n ds → (e .depth ≡ suc (d .depth)) ⊎ (e ∈ ds)

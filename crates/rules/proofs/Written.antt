@@ -18,7 +18,7 @@ use Rattle.rules.specs.Unread.{BoardSize}
 use Rattle.rules.specs.Plain.{linesOfWaits, linesOfMoves, linesOf, upFrom, depthOfWaits, depthOfMoves, WellRead, Spells}
 use Rattle.rules.specs.declared.Board.{Board}
 use Rattle.rules.proofs.NodeLine.{sees-line, seen-is}
-use Rattle.rules.proofs.Lists.{in-first, in-second}
+use Rattle.rules.proofs.Lists.{in-first, in-second, not-nil}
 use Rattle.rules.proofs.Lines.{header-back, wait-back, Names, cell-names, root-names}
 use Rattle.rules.proofs.Reading.{nodesInWaits, nodesInMoves, ReadWaits, ReadMoves}
 use Rattle.rules.proofs.WellRead.{well-read, print-back, nodes-of-waits}
@@ -77,10 +77,7 @@ node-back : (b : Board) (r : Reader Line) (levels i k : ℕ) (c : ℕ) (t u : By
 unfolding nodeHere
 node-back b r levels i k c t u l e h f =
     seen-is b r (suc levels) (spot (c ∷ t) i k) _
-    (sees-line (record { some-text = not-nil; not-full = λ q. omega arith }) (l, u) e (λ z. omega arith) h)
-  where
-    not-nil : (c ∷ t) ≢ []
-    not-nil q = let z : _≡_ {A = ℕ} 0 1 = cc in omega arith
+    (sees-line (record { some-text = not-nil refl; not-full = λ q. omega arith }) (l, u) e (λ z. omega arith) h)
 
 -- sums of lines and of nodes
 add-zero : (i : ℕ) → i ≡ i + 0

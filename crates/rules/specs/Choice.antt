@@ -2,7 +2,7 @@
 use Prim.Native.Nat.{ℕ}
 use mathlib.Core.Bool.{Bool, cond}
 use mathlib.Core.Option.{Option, none, some, Option·map}
-use Rattle.rules.specs.Tree.{Waits, noWaits, wait, Moves, noMoves, move}
+use Rattle.rules.specs.Tree.{Waits, noWaits, wait, Moves, noMoves, move, andThen}
 
 -- one of several: the first, or one later
 pub data OneOf (First Later : Type 0) : Type 0 where
@@ -34,11 +34,6 @@ abbrev pub taken : (ws : Waits) → Choice ws → ℕ
 taken noWaits k = absurd k
 taken (wait line ms ws) (the-first p) = cellThere ms p
 taken (wait line ms ws) (one-later k) = taken ws k
-
--- one forest before another
-abbrev pub andThen : Waits → Waits → Waits
-andThen noWaits us = us
-andThen (wait line ms ws) us = wait line ms (andThen ws us)
 
 -- the open waits after it: its wait closes, and the waits under its move open. (They open in its place, so that the order of lines stays.)
 abbrev pub opened : (ws : Waits) → Choice ws → Waits

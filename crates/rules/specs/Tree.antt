@@ -36,6 +36,11 @@ unfoldable pub asMoves : List Move → Moves
 asMoves [] = noMoves
 asMoves (m ∷ ms) = move (m .line) (m .cell) (m .waits) (asMoves ms)
 
+-- one forest before another
+abbrev pub andThen : Waits → Waits → Waits
+andThen noWaits us = us
+andThen (wait line ms ws) us = wait line ms (andThen ws us)
+
 -- a sheet: the board, the named player, and the first node, which is a move
 pub record Sheet : Type 0 where
   pub board : Board
