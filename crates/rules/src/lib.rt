@@ -22,43 +22,21 @@ pub struct Counts {
 
 // The verdict is one value with a case for each kind of reply and its details.
 pub enum Verdict {
-    Accepted {
-        counts: Counts,
-    },
+    Accepted { counts: Counts },
     Done,
     SmallWorkspace,
     LongText,
     BadHeader,
-    BadLine {
-        line: u32,
-    },
-    OffBoard {
-        line: u32,
-    },
-    TooManyNodes {
-        line: u32,
-    },
-    TooDeep {
-        line: u32,
-    },
-    Unfinished {
-        line: u32,
-    },
-    TextAfter {
-        line: u32,
-    },
-    NotApart {
-        line: u32,
-        cell: u32,
-    },
-    NotElusive {
-        line: u32,
-        cell: u32,
-    },
+    BadLine { line: u32 },
+    OffBoard { line: u32 },
+    TooManyNodes { line: u32 },
+    TooDeep { line: u32 },
+    Unfinished { line: u32 },
+    TextAfter { line: u32 },
+    NotApart { line: u32, cell: u32 },
+    NotElusive { line: u32, cell: u32 },
     TooManyOutcomes,
-    NotJoined {
-        index: u32,
-    },
+    NotJoined { index: u32 },
     ShortRoom,
     AfterOver,
     NoSuchCell,
