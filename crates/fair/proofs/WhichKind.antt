@@ -12,9 +12,9 @@ use Rattle.rules.specs.declared.Board.{Board}
 use Rattle.rules.specs.Tree.{Moves, noMoves, move, Wait, Move}
 use Rattle.cells.specs.Cells.{held}
 use Rattle.nodes.specs.Nodes.{aWait, aMove, nodesOfWaits, nodesOfMoves, many}
-use Rattle.nodes.specs.Table.{cellIn, underIn, RowOn, SomeNode}
+use Rattle.nodes.specs.Table.{cellIn, underIn, RowOn, SomeNode, isMoveAt}
 use Rattle.nodes.specs.Order.{TreeNode, isMove, isWait}
-use Rattle.fair.specs.Faults.{faultyBy, isMoveAt, MoveAt, WaitAt, NodeAt, moveAt, waitAt, SomeTreeNode, FoundAtMove, FoundAtWait, FoundAt}
+use Rattle.fair.specs.Faults.{faultyBy, MoveAt, WaitAt, NodeAt, moveAt, waitAt, SomeTreeNode, FoundAtMove, FoundAtWait, FoundAt}
 use Rattle.fair.specs.declared.Test.{Test}
 use Rattle.fair.specs.declared.Test.the-variants.{Apart, Elusive}
 

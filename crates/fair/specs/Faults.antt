@@ -50,10 +50,6 @@ abbrev pub lineOf : TreeNode → ℕ
 lineOf (isMove m) = m .line
 lineOf (isWait w) = w .line
 
--- the first node is a move, and so is any other that has a cell
-abbrev pub isMoveAt : List ℕ → ℕ → Bool
-isMoveAt t i = eqb i 0 || not (eqb (cellIn t i) 0)
-
 -- this move, or this wait, stands at node i
 abbrev pub MoveAt : Board → List ℕ → ℕ → Move → Type 0
 MoveAt b t i m = At (RowOn b t) aMove i (m .cell) (nodesOfWaits (m .waits))

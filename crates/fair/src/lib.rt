@@ -9,12 +9,13 @@ ghost use Rattle.cells.specs.Cells.{Fits};
 ghost use Rattle.nodes.specs.Nodes.{aWait, aMove};
 ghost use Rattle.nodes.specs.Table.{underIn, RowOn, SomeNode};
 ghost use Rattle.nodes.specs.Sheets.{HoldsSheet, SomeSheet};
-ghost use Rattle.fair.specs.Faults.{FaultFound, firstBy, isMoveAt, SomeTreeNode, FoundAtMove, FoundAtWait, FoundAt, Adds};
+ghost use Rattle.fair.specs.Faults.{FaultFound, firstBy, SomeTreeNode, FoundAtMove, FoundAtWait, FoundAt, Adds};
 use cells::Cells;
 use nodes::cell_at;
 use nodes::collect_move;
 use nodes::collect_wait;
 use nodes::end_at;
+use nodes::is_move;
 use nodes::under_at;
 use nodes::with_stone;
 use rules::Board;
@@ -95,14 +96,6 @@ fn not_elusive_at(table: &[u32], board: Board, i: usize) -> Cells
         j += 1;
     }
     cells
-}
-
-// Whether node i is a move: the first node, and any other that has a cell.
-pub fn is_move(table: &[u32], i: usize) -> bool
-    requires { ⌜ 4 * i + 3 < length (now table) ⌝ }
-    ensures { λ r. ⌜ r ≡ isMoveAt (now (table .entry)) i ⌝ }
-{
-    i == 0 || cell_at(table, i) != 0
 }
 
 // The faulty cells of node i; none where it is of the kind that is not tested.

@@ -2,7 +2,9 @@
 -- all under it, and its number of outcomes.
 use mathlib.Core.Path.{_≡_}
 use Prim.Native.Nat.{ℕ, _+_, _*_, _<_, _≤_}
+use mathlib.Core.Bool.{Bool, not, _||_}
 use mathlib.Core.List.{List}
+use lib.Dec.{eqb}
 use lib.ListN.{length, getD, set}
 use Rattle.rules.specs.Board.{cells}
 use Rattle.rules.specs.declared.Board.{Board}
@@ -19,6 +21,10 @@ endIn t i = getD t (4 * i + 2) 0
 
 abbrev pub countIn : List ℕ → ℕ → ℕ
 countIn t i = getD t (4 * i + 3) 0
+
+-- the first node is a move, and so is any other that has a cell
+abbrev pub isMoveAt : List ℕ → ℕ → Bool
+isMoveAt t i = eqb i 0 || not (eqb (cellIn t i) 0)
 
 -- the table with the first two numbers of node i stored, and with the last two
 abbrev pub withNode : List ℕ → (i cell under : ℕ) → List ℕ

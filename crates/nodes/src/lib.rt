@@ -10,7 +10,7 @@ ghost use Rattle.rules.specs.Tree.{stone};
 ghost use Rattle.rules.specs.Words.{among};
 ghost use Rattle.cells.specs.Cells.{held, Fits};
 ghost use Rattle.nodes.specs.Nodes.{aWait, aMove, limited};
-ghost use Rattle.nodes.specs.Table.{cellIn, underIn, endIn, countIn, withNode, withWeight, Row, RowOn, SomeNode};
+ghost use Rattle.nodes.specs.Table.{cellIn, underIn, endIn, countIn, isMoveAt, withNode, withWeight, Row, RowOn, SomeNode};
 ghost use Rattle.nodes.specs.Weighing.{WeighsAny};
 ghost use Rattle.nodes.specs.Collecting.{CollectsAny};
 use cells::Cells;
@@ -59,6 +59,14 @@ pub fn count_at(t: &[u32], i: usize) -> usize
     ensures { λ r. ⌜ r ≡ countIn (now (t .entry)) i ⌝ }
 {
     wide(t[4 * i + 3])
+}
+
+// Whether node i is a move: the first node, and any other that has a cell.
+pub fn is_move(t: &[u32], i: usize) -> bool
+    requires { ⌜ 4 * i + 3 < length (now t) ⌝ }
+    ensures { λ r. ⌜ r ≡ isMoveAt (now (t .entry)) i ⌝ }
+{
+    i == 0 || cell_at(t, i) != 0
 }
 
 // Stores the cell of node i and the number of nodes right under it.

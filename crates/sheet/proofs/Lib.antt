@@ -1,9 +1,5 @@
-pub mod Counting
-pub mod Fairness
-pub mod Reading
-pub mod Accepting
+pub mod Judging
 pub mod Naming
 pub mod Playing
 pub mod Promise
-pub mod Copying
 pub mod Meets

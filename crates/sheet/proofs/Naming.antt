@@ -23,9 +23,9 @@ use Rattle.cells.specs.Cells.{held, Listed}
 use Rattle.cells.proofs.Smallest.{listed-same}
 use Rattle.nodes.specs.Sheets.{HoldsSheet}
 use Rattle.outcomes.specs.Picking.{MovePick, SomeMovePick, MovePicked}
-use Rattle.sheet.specs.Kept.{IsFair}
+use Rattle.judging.specs.Checked.{Passed}
 use Rattle.sheet.specs.Naming.{listing, naming, HasOutcome, SomeOutcome, NamedKept}
-use Rattle.sheet.proofs.Accepting.{sheet-weighed}
+use Rattle.judging.proofs.Accepting.{sheet-weighed}
 
 -- a refusal lists nothing, and leaves the room as it was
 pub kept-refused : (o : OutcomeReply) (v : Verdict) (room : List ℕ) (r : Named) → o ≡ named (refused v) → r ≡ outcomeShown (named (refused v)) → NamedKept o room r room
@@ -133,5 +133,5 @@ pub kept-as : {o o′ : OutcomeReply} {room room′ : List ℕ} {r : Named} → 
 kept-as {o} {o′} {room} {room′} {r} e k = subst⁻¹ (λ (z : OutcomeReply). NamedKept z room r room′) e k
 
 -- a fair sheet that has the outcome
-pub has-outcome : {t : List ℕ} {b : Board} {s : Sheet} {number count : ℕ} → HoldsSheet t b s → IsFair s count → number < count → HasOutcome t b s number
+pub has-outcome : {t : List ℕ} {b : Board} {s : Sheet} {number count : ℕ} → HoldsSheet t b s → Passed s (fair s) count → number < count → HasOutcome t b s number
 has-outcome h f l = record { holds = h; few = omega (arith, f .counted, f .few); numbered = omega (arith, f .counted) }

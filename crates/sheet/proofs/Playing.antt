@@ -22,12 +22,15 @@ use Rattle.answering.specs.Playing.{Playable, PlaysMoves, asPlayed}
 use Rattle.answering.specs.declared.PlayedOut.{PlayedOut}
 use Rattle.answering.specs.declared.PlayedOut.the-variants as out
 use Rattle.answering.proofs.Held.{held-playable, was-stopped, entry-reply, entry-played}
-use Rattle.sheet.specs.Kept.{SheetHeld, checked, IsAccepted, AcceptReply}
-use Rattle.sheet.specs.Playing.{PlayedKept, Copied}
-use Rattle.sheet.specs.declared.FairRead.{FairRead}
-use Rattle.sheet.specs.declared.FairRead.the-variants as FairRead
-use Rattle.sheet.proofs.Accepting.{text-accepted}
-use Rattle.sheet.proofs.Copying.{copied-room}
+use Rattle.loading.specs.Held.{SheetHeld}
+use Rattle.loading.specs.Copied.{Copied}
+use Rattle.judging.specs.Checked.{passing, Tells}
+use Rattle.judging.specs.declared.FairRead.{FairRead}
+use Rattle.judging.specs.declared.FairRead.the-variants as FairRead
+use Rattle.judging.proofs.Accepting.{passed-of, refused-of}
+use Rattle.sheet.specs.Playing.{PlayedKept}
+use Rattle.sheet.proofs.Judging.{text-accepted}
+use Rattle.loading.proofs.Copying.{copied-room}
 
 -- a refusal gives no answers, and leaves the room as it was
 pub played-refused : (o : PlayReply) (v : Verdict) (place : ℕ) (room : List ℕ) (r : Played) → o ≡ refusedPlay v place → r ≡ playShown (refusedPlay v place) → PlayedKept o room r room
@@ -93,22 +96,22 @@ module _ (t : Bytes) (moves : List ℕ) (room : ℕ) where
 -- a text that was read
 unread : (t : Bytes) (v : Verdict) → readText t ≡ refused v → accepted leastWorkspace t ≡ refused v
 unfolding _>>=_
-unread t v e = text-accepted leastWorkspace t (omega arith) ∙ ap (λ (r : Result Sheet). r >>= checked) e
+unread t v e = text-accepted leastWorkspace t (omega arith) ∙ ap (λ (r : Result Sheet). r >>= passing) e
 
 pub play-unread : (t : Bytes) (moves : List ℕ) (room : ℕ) (v : Verdict) → readText t ≡ refused v → play leastWorkspace t moves room ≡ refusedPlay v 0
 play-unread t moves room v e = play-refused t moves room leastWorkspace v (unread t v e)
 
 module _ (t : Bytes) {table : List ℕ} {b : Board} {p : Player} (h : SheetHeld t table b p) where
-  of-checked : (r : Result Sheet) → checked (h .sheet) ≡ r → accepted leastWorkspace t ≡ r
+  of-passing : (r : Result Sheet) → passing (h .sheet) ≡ r → accepted leastWorkspace t ≡ r
   unfolding _>>=_
-  of-checked r e = text-accepted leastWorkspace t (omega arith) ∙ ap (λ (z : Result Sheet). z >>= checked) (h .reads) ∙ e
+  of-passing r e = text-accepted leastWorkspace t (omega arith) ∙ ap (λ (z : Result Sheet). z >>= passing) (h .reads) ∙ e
 
-  module _ (a : FairRead) (k : AcceptReply (h .sheet) a) where
+  module _ (a : FairRead) (k : Tells (h .sheet) (passing (h .sheet)) a) where
     pub held-refused : (v : Verdict) → a ≡ FairRead.Refused v → accepted leastWorkspace t ≡ refused v
-    held-refused v e = of-checked (refused v) (subst (AcceptReply (h .sheet)) e k)
+    held-refused v e = of-passing (refused v) (refused-of (h .sheet) _ a k v e)
 
     pub held-accepted : (count : ℕ) → a ≡ FairRead.Got count → accepted leastWorkspace t ≡ got (h .sheet)
-    held-accepted count e = let i : IsAccepted (h .sheet) count = subst (AcceptReply (h .sheet)) e k in of-checked (got (h .sheet)) (i .passes)
+    held-accepted count e = of-passing (got (h .sheet)) (passed-of (h .sheet) _ a k count e .passes)
 
     pub playable : (count : ℕ) → a ≡ FairRead.Got count → Playable table b p (h .sheet)
     playable count e = held-playable leastWorkspace t (h .held) (h .for) (held-accepted count e)

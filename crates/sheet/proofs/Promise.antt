@@ -11,6 +11,7 @@ use Rattle.rules.specs.Reading.{got}
 use Rattle.rules.specs.Answering.{isOver}
 use Rattle.rules.specs.Entries.{counts, PlayReply, accepted, playShown, roomAfter}
 use Rattle.rules.specs.Plain.{IsSheet}
+use Rattle.rules.specs.declared.Counts.{Counts}
 use Rattle.rules.specs.declared.Played.{Played}
 use Rattle.rules.specs.declared.Verdict.the-variants.{Done}
 use Rattle.rules.proofs.Tests.{true-of}

@@ -1,5 +1,4 @@
 -- What the contracts of `sheet` cite.
-pub mod Kept
 pub mod Naming
 pub mod Playing
 pub mod Promise

@@ -1,177 +1,36 @@
-// sheet: the public face. It holds the entries over a sheet's text and a lent workspace, and the steps that they share: reading a
-// sheet into the workspace, its fairness, and clearing. It sees all crates below.
+// sheet: the public face: the three entries over a sheet's text and a lent workspace. It sees rules, cells, nodes, outcomes,
+// answering, loading and judging.
 ghost use mathlib.Core.Path.{_≡_};
 ghost use Prim.Native.Nat.{ℕ, _≤_};
 ghost use Rattle.rules.specs.Text.{Bytes};
 ghost use lib.ListN.{length, replicate};
 ghost use Rattle.rules.specs.Sizes.{mostNodes, leastWorkspace};
-ghost use Rattle.rules.specs.Tree.{Sheet, moveCount};
-ghost use Rattle.rules.specs.declared.Board as declared;
+ghost use Rattle.rules.specs.Tree.{Sheet};
 ghost use Rattle.nodes.specs.Sheets.{HoldsSheet, SomeSheet};
 ghost use Rattle.rules.specs.Answering.{start};
-ghost use Rattle.rules.specs.Entries.{judged, judge, JudgeKept, named, outcome, outcomeShown, OutcomeKept, rounds, playedOut, refusedPlay, play, playShown, PlayKept};
+ghost use Rattle.rules.specs.Entries.{judge, JudgeKept, named, outcome, outcomeShown, OutcomeKept, rounds, playedOut, refusedPlay, play, playShown, PlayKept};
 ghost use Rattle.answering.specs.Playing.{Playable, SomePlayable};
-ghost use Rattle.sheet.specs.Kept.{SheetHeld, SheetReply, FairReply, checked, AcceptReply};
+ghost use Rattle.loading.specs.Held.{SheetHeld};
 ghost use Rattle.rules.specs.Reading.{refused};
 ghost use Rattle.sheet.specs.Naming.{listing, naming, HasOutcome, SomeOutcome, NamedKept};
-ghost use Rattle.sheet.specs.Playing.{SomeText, PlayedKept, Copied};
+ghost use Rattle.loading.specs.Copied.{Copied};
+ghost use Rattle.sheet.specs.Playing.{SomeText, PlayedKept};
 use answering::PlayedOut;
 use answering::play_moves;
 use cells::Cells;
-use fair::Fault;
-use fair::is_move;
-use fair::not_apart;
-use fair::not_elusive;
-use lines::HeaderRead;
-use lines::header_line;
-use nodes::count_at;
-use nodes::end_at;
-use nodes::weigh_move;
-use outcomes::Unjoined;
-use outcomes::first_unjoined;
+use judging::FairRead;
+use judging::accept_sheet;
+use judging::fair_sheet;
+use judging::judge_table;
+use loading::SheetRead;
+use loading::clear;
+use loading::read_sheet;
 use outcomes::pick_move;
-use reading::BodyRead;
-use reading::read_body;
 use rules::Board;
-use rules::Counts;
 use rules::Named;
 use rules::Played;
 use rules::Player;
 use rules::Verdict;
-
-// Sets every number of the table to 0.
-fn clear(table: &mut [u32])
-    requires { ⌜ length (now table) ≡ leastWorkspace ⌝ }
-    ensures { λ _. ⌜ now (table .exit) ≡ replicate leastWorkspace 0 ⌝ }
-{
-    let mut i = 0;
-    while i < table.len() {
-        table[i] = 0;
-        i += 1;
-    }
-}
-
-// A sheet that was read into the table: its board and its player; or the refusal.
-enum SheetRead {
-    Got { board: Board, player: Player },
-    Refused { verdict: Verdict },
-}
-
-// Reads a sheet into the table: 2 to 9.
-fn read_sheet(sheet: &[u8], table: &mut [u32]) -> SheetRead
-    requires { ⌜ length (now table) ≡ leastWorkspace ⌝ }
-    ensures { λ r. ⌜ SheetReply (now (sheet .entry)) r (now (table .exit)) ⌝ }
-{
-    if 32768 < sheet.len() {
-        return SheetRead::Refused {
-            verdict: Verdict::LongText,
-        };
-    }
-    let HeaderRead::Got { board, player, end } = header_line(sheet) else {
-        return SheetRead::Refused {
-            verdict: Verdict::BadHeader,
-        };
-    };
-    let body = &sheet[end..];
-    let read = read_body(body, table, board);
-    match read {
-        BodyRead::Refused { verdict } => SheetRead::Refused { verdict },
-        BodyRead::Got => {
-            weigh_move(table, 0);
-            SheetRead::Got { board, player }
-        }
-    }
-}
-
-// A sheet that is fair, and its number of outcomes; or the refusal.
-enum FairRead {
-    Got { outcomes: u32 },
-    Refused { verdict: Verdict },
-}
-
-// Whether the sheet in the table is fair: 10, 11, 12.
-fn fair_sheet(table: &[u32], board: Board) -> FairRead
-    requires { ⌜ SomeSheet (now table) board ⌝ }
-    ensures { λ r. ⌜ ((s : Sheet) → HoldsSheet (now (table .entry)) board s → FairReply s r) ⌝ }
-{
-    if let Fault::At { line, cell } = not_apart(table, board) {
-        return FairRead::Refused {
-            verdict: Verdict::NotApart { line, cell },
-        };
-    }
-    if let Fault::At { line, cell } = not_elusive(table, board) {
-        return FairRead::Refused {
-            verdict: Verdict::NotElusive { line, cell },
-        };
-    }
-    let outcomes = count_at(table, 0);
-    if 65536 < outcomes {
-        return FairRead::Refused {
-            verdict: Verdict::TooManyOutcomes,
-        };
-    }
-    FairRead::Got {
-        outcomes: outcomes as u32,
-    }
-}
-
-// How many moves the sheet in the table has.
-fn count_moves(table: &[u32]) -> usize
-    requires { ⌜ ((b : declared.Board) × SomeSheet (now table) b) ⌝ }
-    ensures { λ r. ⌜ ((b : declared.Board) (s : Sheet) → HoldsSheet (now (table .entry)) b s → r ≡ moveCount s) ⌝ }
-{
-    let end = end_at(table, 0);
-    let mut moves = 0;
-    let mut i = 0;
-    while i < end {
-        if is_move(table, i) {
-            moves += 1;
-        }
-        i += 1;
-    }
-    moves
-}
-
-// Whether the sheet in the table is fair and satisfying: 10, 11, 12, 13.
-fn accept_sheet(table: &[u32], board: Board, player: Player) -> FairRead
-    requires { ⌜ SomeSheet (now table) board ⌝ }
-    ensures { λ r. ⌜ ((s : Sheet) → HoldsSheet (now (table .entry)) board s → s .player ≡ player → AcceptReply s r) ⌝ }
-{
-    let checked = fair_sheet(table, board);
-    match checked {
-        FairRead::Refused { verdict } => FairRead::Refused { verdict },
-        FairRead::Got { outcomes } => {
-            if let Unjoined::First { number } = first_unjoined(table, board, player, 0) {
-                return FairRead::Refused {
-                    verdict: Verdict::NotJoined { index: number },
-                };
-            }
-            FairRead::Got { outcomes }
-        }
-    }
-}
-
-// The verdict on the sheet in the table, with its counts.
-fn judge_table(table: &[u32], board: Board, player: Player) -> Verdict
-    requires { ⌜ SomeSheet (now table) board ⌝ }
-    ensures { λ r. ⌜ ((s : Sheet) → HoldsSheet (now (table .entry)) board s → s .player ≡ player → r ≡ judged (checked s)) ⌝ }
-{
-    let accepted = accept_sheet(table, board, player);
-    match accepted {
-        FairRead::Refused { verdict } => verdict,
-        FairRead::Got { outcomes } => {
-            let moves = count_moves(table);
-            let waits = end_at(table, 0) - moves;
-            Verdict::Accepted {
-                counts: Counts {
-                    moves: moves as u32,
-                    waits: waits as u32,
-                    outcomes,
-                },
-            }
-        }
-    }
-}
 
 // The verdict on a sheet that is read into the table.
 fn judge_text(sheet: &[u8], table: &mut [u32]) -> Verdict
@@ -233,8 +92,8 @@ fn name_outcome(table: &[u32], board: Board, number: u32, room: &mut [u32]) -> N
     requires { ⌜ SomeSheet (now table) board ⌝ }
     ensures { λ r. ⌜ ((s : Sheet) → HoldsSheet (now (table .entry)) board s → NamedKept (named (naming s number (length (now (room .entry))))) (now (room .entry)) r (now (room .exit))) ⌝ }
 {
-    let checked = fair_sheet(table, board);
-    match checked {
+    let read = fair_sheet(table, board);
+    match read {
         FairRead::Refused { verdict } => unnamed(verdict),
         FairRead::Got { outcomes } => {
             if outcomes <= number {

@@ -1,6 +1,7 @@
 -- `judge_text` meets its contract: the reading's refusals, or the verdict on the sheet that was read.
 use borrow.Author.Needs.{needs}
-use Rattle.sheet.proofs.Accepting.{held-of, refused-of, reply-refused, reply-sheet}
+use Rattle.loading.proofs.Reading.{held-of, refused-of}
+use Rattle.sheet.proofs.Judging.{reply-refused, reply-sheet}
 use Rattle.sheet.proofs.judge_text.Statement.{statement}
 use Rattle.sheet.proofs.judge_text.Tie as tie
 

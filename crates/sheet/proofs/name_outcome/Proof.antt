@@ -3,7 +3,7 @@ use mathlib.Core.Path.{ap}
 use native.Mathlib.Omega.{arith}
 use borrow.Author.Needs.{needs}
 use Rattle.rules.specs.Entries.{named}
-use Rattle.sheet.proofs.Accepting.{fair-of, unfair-of}
+use Rattle.judging.proofs.Accepting.{passed-of, refused-of}
 use Rattle.sheet.proofs.Naming.{kept-refused, kept-as, has-outcome, naming-refused, naming-none, naming-listing}
 use Rattle.sheet.proofs.name_outcome.Statement.{statement}
 use Rattle.sheet.proofs.name_outcome.Tie as tie
@@ -11,14 +11,14 @@ use Rattle.sheet.proofs.name_outcome.Tie as tie
 fair-sheet-requires : tie.Need-fair-sheet-requires
 fair-sheet-requires c κs = search needs
 
-enum-known-checked : tie.Need-enum-known-checked
-enum-known-checked c = search needs
+enum-known-read : tie.Need-enum-known-read
+enum-known-read c = search needs
 
 unnamed-requires : tie.Need-unnamed-requires
 unnamed-requires c κs = search needs
 
-enum-known-checked-2 : tie.Need-enum-known-checked-2
-enum-known-checked-2 c = search needs
+enum-known-read-2 : tie.Need-enum-known-read-2
+enum-known-read-2 c = search needs
 
 unnamed-requires-2 : tie.Need-unnamed-requires-2
 unnamed-requires-2 c κs = search needs
@@ -26,20 +26,20 @@ unnamed-requires-2 c κs = search needs
 returns : tie.Need-returns
 returns c = λ s h.
     let told = c .before .before .before in
-    let f = fair-of _ _ (told .before .before .fair-sheet .ensures s h) (told .checked2 .given .1) in
+    let f = passed-of _ _ _ (told .before .before .fair-sheet .ensures s h) _ (told .read2 .given .1) in
     kept-refused _ _ _ _ (ap named (naming-none s _ _ (f .passes) (omega (arith, f .counted, c .before .if1 .taken)))) (c .unnamed2 .ensures)
 
 list-outcome-requires : tie.Need-list-outcome-requires
 list-outcome-requires c κs =
     let told = c .before .before .before in
     let pre = told .before .before .before .before .before .pre in
-    let f = fair-of _ _ (told .before .before .fair-sheet .ensures (pre .sheet) (pre .held)) (told .checked2 .given .1) in
+    let f = passed-of _ _ _ (told .before .before .fair-sheet .ensures (pre .sheet) (pre .held)) _ (told .read2 .given .1) in
     record { sheet = pre .sheet; has = has-outcome (pre .held) f (c .before .if1 .left) }
 
 returns-2 : tie.Need-returns-2
 returns-2 c = λ s h.
     let told = c .before .before in
-    kept-refused _ _ _ _ (ap named (naming-refused s _ _ _ (unfair-of s _ _ (told .before .before .fair-sheet .ensures s h) (told .checked .given .1)))) (c .unnamed .ensures)
+    kept-refused _ _ _ _ (ap named (naming-refused s _ _ _ (refused-of _ _ _ (told .before .before .fair-sheet .ensures s h) _ (told .read .given .1)))) (c .unnamed .ensures)
 
 same-length : tie.Need-same-length
 same-length c = search needs
@@ -49,7 +49,7 @@ returns-3 c = λ s h.
     let list = c .before .before in
     let other = list .before .before in
     let told = other .before .before in
-    let f = fair-of _ _ (told .before .before .fair-sheet .ensures s h) (told .checked2 .given .1) in
+    let f = passed-of _ _ _ (told .before .before .fair-sheet .ensures s h) _ (told .read2 .given .1) in
     let has = has-outcome h f (other .if1 .left) in
     kept-as (ap named (naming-listing s _ _ (f .passes) (has .numbered))) (list .list-outcome .ensures s has)
 
@@ -58,9 +58,9 @@ name-outcome-spec =
     tie.close
     (tie.spec
     fair-sheet-requires
-    enum-known-checked
+    enum-known-read
     unnamed-requires
-    enum-known-checked-2
+    enum-known-read-2
     unnamed-requires-2
     returns
     list-outcome-requires

@@ -1,6 +1,6 @@
 -- `outcome_text` meets its contract: the reading's refusals, or what `name_outcome` does.
 use borrow.Author.Needs.{needs}
-use Rattle.sheet.proofs.Accepting.{held-of, refused-of}
+use Rattle.loading.proofs.Reading.{held-of, refused-of}
 use Rattle.sheet.proofs.Naming.{kept-refused, kept-as, outcome-refused, outcome-sheet}
 use Rattle.sheet.proofs.outcome_text.Statement.{statement}
 use Rattle.sheet.proofs.outcome_text.Tie as tie

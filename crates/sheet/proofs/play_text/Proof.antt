@@ -1,6 +1,6 @@
 -- `play_text` meets its contract: the reading's refusals, or what `play_sheet` does.
 use borrow.Author.Needs.{needs}
-use Rattle.sheet.proofs.Accepting.{held-of, refused-of}
+use Rattle.loading.proofs.Reading.{held-of, refused-of}
 use Rattle.sheet.proofs.Playing.{played-refused, play-unread}
 use Rattle.sheet.proofs.play_text.Statement.{statement}
 use Rattle.sheet.proofs.play_text.Tie as tie

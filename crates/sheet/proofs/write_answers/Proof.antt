@@ -4,8 +4,8 @@ use mathlib.Core.Path.{_≡_, refl, subst}
 use Prim.Native.Nat.{ℕ, _-_, _*_, _^_, _<_, _≤_}
 use lib.ListN.{length}
 use native.Mathlib.Omega.{arith}
-use Rattle.sheet.specs.Playing.{Copied}
-use Rattle.sheet.proofs.Copying.{copied-none, copied-more}
+use Rattle.loading.specs.Copied.{Copied}
+use Rattle.loading.proofs.Copying.{copied-none, copied-more}
 use Rattle.sheet.proofs.write_answers.Statement.{statement}
 use Rattle.sheet.proofs.write_answers.Tie as tie
 

@@ -1,0 +1,62 @@
+-- `accept_sheet` meets its contract: the refusals of fairness, 13, or accepted.
+use borrow.Author.Needs.{needs}
+use Rattle.nodes.proofs.Sheets.{sheet-fits}
+use Rattle.judging.proofs.Accepting.{passed-of, countable, accept-refused, accept-unjoined, accept-got}
+use Rattle.judging.proofs.accept_sheet.Statement.{statement}
+use Rattle.judging.proofs.accept_sheet.Tie as tie
+
+fair-sheet-requires : tie.Need-fair-sheet-requires
+fair-sheet-requires c κs = search needs
+
+enum-known-read : tie.Need-enum-known-read
+enum-known-read c = search needs
+
+enum-known-read-2 : tie.Need-enum-known-read-2
+enum-known-read-2 c = search needs
+
+first-unjoined-requires : tie.Need-first-unjoined-requires
+first-unjoined-requires c κs =
+    let fair = c .before .before .before in
+    let pre = fair .before .before .pre in (
+      sheet-fits (pre .held),
+      (
+        pre .sheet .root .cell,
+        pre .sheet .root .waits,
+        countable (pre .held) _ (passed-of _ _ _ (fair .fair-sheet .ensures (pre .sheet) (pre .held)) _ (c .before .read2 .given .1)),
+      ),
+    )
+
+enum-known-number : tie.Need-enum-known-number
+enum-known-number c = search needs
+
+returns : tie.Need-returns
+returns c = λ s h same.
+    let walk = c .before .before .before in
+    let told = walk .before .before in
+    accept-unjoined h _ same _ (told .before .before .fair-sheet .ensures s h) _ (told .read2 .given .1) _ (walk .first-unjoined .ensures) _ (c .before .number .given .1)
+
+enum-told : tie.Need-enum-told
+enum-told c = search needs
+
+returns-2 : tie.Need-returns-2
+returns-2 c = λ s h same. accept-refused h _ same _ (c .before .before .before .fair-sheet .ensures s h) _ (c .before .read .given .1)
+
+returns-3 : tie.Need-returns-3
+returns-3 c = λ s h same.
+    let walk = c .before .before in
+    let told = walk .before .before in
+    accept-got h _ same _ (told .before .before .fair-sheet .ensures s h) _ (told .read2 .given .1) _ (walk .first-unjoined .ensures) (c .enum-told .given .1)
+
+pub accept-sheet-spec : {M : Type 1} → statement M
+accept-sheet-spec =
+    tie.close
+    (tie.spec
+    fair-sheet-requires
+    enum-known-read
+    enum-known-read-2
+    first-unjoined-requires
+    enum-known-number
+    returns
+    enum-told
+    returns-2
+    returns-3)

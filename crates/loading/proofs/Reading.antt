@@ -1,0 +1,100 @@
+-- A sheet's text: 2 and 3, its body, and the table that holds what was read and weighed.
+use mathlib.Core.Path.{_≡_, refl, sym, ap, _∙_, subst}
+use mathlib.Core.List.{List}
+use mathlib.Core.Option.{none, some}
+use Prim.Native.Nat.{ℕ, _-_, _≤_, _<_}
+use native.Mathlib.Omega.{arith}
+use lib.ListN.{length, take, drop, length-take, length-drop}
+use lib.Seq.{take-all}
+use borrow.Author.Tests.{lt-ltb, le-ltb}
+use Rattle.rules.specs.Sizes.{mostBytes, leastWorkspace}
+use Rattle.rules.specs.Text.{Bytes}
+use Rattle.rules.specs.Lines.{Header, headerLine}
+use Rattle.rules.specs.Reading.{refused, readBody, headed, readSheet}
+use Rattle.rules.specs.Entries.{_>>=_, refuseIf, readText}
+use Rattle.rules.specs.Unread.{BoardSize}
+use Rattle.rules.specs.declared.Board.{Board}
+use Rattle.rules.specs.declared.Player.{Player}
+use Rattle.rules.specs.declared.Verdict.{Verdict}
+use Rattle.rules.specs.declared.Verdict.the-variants.{LongText, BadHeader}
+use Rattle.rules.proofs.Lines.{header-is}
+use Rattle.rules.proofs.WellRead.{well-read}
+use Rattle.cells.specs.Cells.{Fits}
+use Rattle.nodes.specs.Nodes.{aMove, nodesOfWaits}
+use Rattle.nodes.specs.Table.{Row, SomeNode}
+use Rattle.nodes.specs.Weighing.{WeighsAny}
+use Rattle.nodes.proofs.Weighing.{weighs-at, weighs-long}
+use Rattle.lines.specs.Seen.{Reads}
+use Rattle.reading.specs.Kept.{BodyReady, BodyStands, BodyReply, BodyKept}
+use Rattle.reading.specs.declared.BodyRead.{BodyRead}
+use Rattle.reading.specs.declared.BodyRead.the-variants as BodyRead
+use Rattle.loading.specs.Held.{SheetHeld, SheetReply}
+use Rattle.loading.specs.declared.SheetRead.{SheetRead}
+use Rattle.loading.specs.declared.SheetRead.the-variants as SheetRead
+
+-- the part of a text from a place on
+pub part-within : (s : Bytes) (at : ℕ) → length (take (length s - at) (drop at s)) ≤ length s
+part-within s at = omega (arith, length-take (length s - at) (drop at s), length-drop at s)
+
+part-from : (s : Bytes) (at : ℕ) → take (length s - at) (drop at s) ≡ drop at s
+part-from s at = take-all (length s - at) (drop at s) (omega (arith, length-drop at s))
+
+-- what the header's reading told, and the part of the text after it
+pub header-body : (t : Bytes) (h : Header) (end : ℕ) → Reads t 0 headerLine (some (h, end)) → some (h, take (length t - end) (drop end t)) ≡ headerLine t
+header-body t h end r = ap (λ (z : Bytes). some (h, z)) (part-from t end) ∙ r .same
+
+pub text-long : (t : Bytes) → mostBytes < length t → readText t ≡ refused LongText
+unfolding readText refuseIf _>>=_
+text-long t h = rw (lt-ltb mostBytes (length t) h)
+
+module _ (t : Bytes) (short : length t ≤ mostBytes) where
+  text-reads : readText t ≡ readSheet t
+  unfolding readText refuseIf _>>=_
+  text-reads = rw (le-ltb mostBytes (length t) short)
+
+  pub text-headless : none ≡ headerLine t → readText t ≡ refused BadHeader
+  unfolding readSheet headed
+  text-headless e = text-reads ∙ rw (sym e)
+
+  module _ (b : Board) (p : Player) (body : Bytes) (e : some (record { board = b; player = p }, body) ≡ headerLine t) where
+    sheet-body : readSheet t ≡ readBody (record { board = b; player = p }) body
+    unfolding readSheet headed
+    sheet-body = rw (sym e)
+
+    header-fits : Fits b
+    unfolding BoardSize
+    header-fits =
+        let z = header-is t (record { board = b; player = p }, body) (sym e) .1 in
+        record { some-column = z .0 .0; few-columns = omega (arith, z .0 .1); some-row = z .1 .0; few-rows = omega (arith, z .1 .1) }
+
+    pub body-ready : (table : List ℕ) → length body ≤ length t → length table ≡ leastWorkspace → BodyReady b body table
+    body-ready table within long = record { fits = header-fits; short = omega (arith, within, short); long = long }
+
+    module _ (r : BodyRead) (before after : List ℕ) (k : BodyKept b body before r after) where
+      pub text-refused : (v : Verdict) → r ≡ BodyRead.Refused v → readText t ≡ refused v
+      text-refused v q = text-reads ∙ sheet-body ∙ subst (λ (z : BodyRead). BodyReply b p body z after) q (k .reply-is p)
+
+      module _ (q : r ≡ BodyRead.Got) where
+        tree : BodyStands b p body after
+        tree = subst (λ (z : BodyRead). BodyReply b p body z after) q (k .reply-is p)
+
+        pub tree-stands : SomeNode (Row after) aMove 0
+        tree-stands = record { cell = tree .root .cell; under = nodesOfWaits (tree .root .waits); at = tree .stands }
+
+        pub text-held : (count next : ℕ) (out : List ℕ) → length after ≡ leastWorkspace → WeighsAny aMove after 0 count next out → SheetHeld t out b p
+        text-held count next out long w =
+            let weighs = w (tree .root .cell) (nodesOfWaits (tree .root .waits)) (tree .stands) in
+            let reads = sheet-body ∙ tree .reads in
+            record {
+              sheet = record { board = b; player = p; root = tree .root };
+              reads = text-reads ∙ reads;
+              for = refl;
+              held = record { long = weighs-long weighs ∙ long; on = refl; well = well-read t _ reads; root = weighs-at weighs (tree .stands) };
+            }
+
+-- what the reading told
+pub held-of : (t : Bytes) (after : List ℕ) (b : Board) (p : Player) (r : SheetRead) → SheetReply t r after → r ≡ SheetRead.Got b p → SheetHeld t after b p
+held-of t after b p r h e = subst (λ (z : SheetRead). SheetReply t z after) e h
+
+pub refused-of : (t : Bytes) (after : List ℕ) (v : Verdict) (r : SheetRead) → SheetReply t r after → r ≡ SheetRead.Refused v → readText t ≡ refused v
+refused-of t after v r h e = subst (λ (z : SheetRead). SheetReply t z after) e h

@@ -1,0 +1,3 @@
+-- What the contracts of `loading` cite.
+pub mod Held
+pub mod Copied
