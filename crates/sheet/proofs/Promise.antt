@@ -74,13 +74,14 @@ module _ (t : Bytes) (s : Sheet) (h : IsSheet leastWorkspace t s) where
       }
 
 pub covers-play : CoversPlay
+unfolding counts
 covers-play ws t n after k =
     let a = accepted-reply (length ws) t n .0 (sym (k .reply)) in
     let h = in-another (length ws) leastWorkspace t (a .sheet) (omega arith) (a .is-sheet) in
     record {
       sheet = a .sheet;
       is-sheet = h;
-      waits-are = unfold counts in ap (λ (z : Counts). z .waits) (a .counts-are);
+      waits-are = ap (λ (z : Counts). z .waits) (a .counts-are);
       cover = demand-3 leastWorkspace t (a .sheet) (accepted-in t (a .sheet) h leastWorkspace (omega arith));
       plays = play-keeps t (a .sheet) h;
       ends = play-ends t (a .sheet) h;
