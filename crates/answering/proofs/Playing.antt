@@ -26,7 +26,7 @@ use Rattle.rules.proofs.Tests.{fst}
 use Rattle.rules.proofs.Lists.{among-append}
 use Rattle.rules.proofs.Joining.{joined-same}
 use Rattle.rules.proofs.Given.{accepted-exactly}
-use Rattle.rules.proofs.Cover.{demand-3}
+use Rattle.rules.proofs.Cover.{mine-next, demand-3}
 use Rattle.cells.specs.Cells.{held, Fits}
 use Rattle.nodes.specs.Nodes.{aMove, size, nodesOfWaits}
 use Rattle.nodes.specs.Table.{endIn, SomeNode}
@@ -152,10 +152,6 @@ empty-cell : (s : Sheet) (g : Game) (x : ℕ) → T (isEmpty s g x) → T (isCel
 unfolding isEmpty
 empty-cell s g x e = fst (isCell (s .board) x) (not (isTaken s g x)) e
 
-mine-more : (s : Sheet) (g : Game) (x : ℕ) (k : Choice (g .open-waits)) → mine s (next g x k) ≡ mine s g ++ taken (g .open-waits) k ∷ []
-unfolding mine next
-mine-more s g x k = sym (append-assoc (stone (s .root .cell)) (g .answers) (taken (g .open-waits) k ∷ []))
-
 module _ {t₀ : List ℕ} {b : Board} {p : Player} {s : Sheet} (h : Playable t₀ b p s) {moves room₀ t room ours theirs : List ℕ} {i : ℕ}
     (l : Playing b s moves room₀ t room ours theirs i) where
   abbrev checkedNow : ℕ → Result (Unit {0})
@@ -255,7 +251,7 @@ module _ {t₀ : List ℕ} {b : Board} {p : Player} {s : Sheet} (h : Playable t�
             ours-are = λ y.
                 one-more y (taken (g .open-waits) k) (mine s g) (held b ours y) (held b ours′ y)
                 (us y ∙ ap (λ (z : ℕ). eqb y z || held b ours y) (f .cell-is)) (l .ours-are y)
-                ∙ ap (λ (z : List ℕ). among z y) (sym (mine-more s g x k));
+                ∙ ap (λ (z : List ℕ). among z y) (sym (mine-next s g x k));
             theirs-are = λ y. one-more y x (g .theirs) (held b theirs y) (held b theirs′ y) (them y) (l .theirs-are y);
             many = omega (arith, length-append (g .answers) (taken (g .open-waits) k ∷ []), l .many);
             rounds-are =

@@ -13,7 +13,7 @@ use Rattle.rules.specs.declared.Board.{Board}
 use Rattle.rules.specs.declared.Player.{Player}
 use Rattle.rules.proofs.Tests.{same-test, holds-of}
 use Rattle.rules.proofs.Smallest.{smallest-none}
-use Rattle.rules.proofs.Joining.{joined→joins, joins→joined}
+use Rattle.rules.proofs.Joining.{chain-from, joined→joins, joins→joined}
 use Rattle.rules.proofs.Places.{cell-place, at-place, column-at, row-at, cell-at}
 use Rattle.cells.specs.Cells.{held, Fits}
 use Rattle.cells.specs.Rows.{In, mergedRows, Clipped, Side}
@@ -32,10 +32,6 @@ clipped-framed b s t fits cl =
           let o = cl .only c r e .1 in
           (o .top, o .bottom, omega (arith, o .right, fits .few-columns));
     }
-
-chain-from : {b : Board} {s : ℕ → Bool} {z x : ℕ} → Chain b s z x → T (s x)
-chain-from (here h) = h
-chain-from (step y h n c) = h
 
 chain-to : {b : Board} {s : ℕ → Bool} {z x : ℕ} → Chain b s z x → T (s z)
 chain-to (here h) = h

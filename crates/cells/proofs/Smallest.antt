@@ -13,6 +13,7 @@ use Rattle.rules.specs.Words.{if_then_else_, keep, upTo, firstOrNone}
 use Rattle.rules.specs.Board.{On, isCell, cells, cellAt, columnOf, rowOf, listed, smallest}
 use Rattle.rules.specs.declared.Board.{Board}
 use Rattle.rules.proofs.Tests.{true-of, false-of, left}
+use Rattle.rules.proofs.Lists.{keep-append}
 use Rattle.rules.proofs.Smallest.{smallest-some, smallest-zero, smallest-is}
 use Rattle.rules.proofs.Places.{range-cell, cell-place, at-place, column-at, row-at, cell-at}
 use Rattle.cells.specs.Cells.{digit, held, Fits}
@@ -21,15 +22,6 @@ use Rattle.cells.proofs.Digits.{digit-half, digit-zero}
 use Rattle.cells.proofs.Held.{held-cell, held-in, in-held}
 
 -- ---- the first of what is kept
-
-keep-append : (p : ℕ → Bool) (xs ys : List ℕ) → keep p (xs ++ ys) ≡ keep p xs ++ keep p ys
-unfolding keep
-keep-append p [] ys = refl
-keep-append p (x ∷ xs) ys = go (p x) (keep-append p xs ys)
-  where
-    go : (t : Bool) → keep p (xs ++ ys) ≡ keep p xs ++ keep p ys → (if t then x ∷ keep p (xs ++ ys) else keep p (xs ++ ys)) ≡ (if t then x ∷ keep p xs else keep p xs) ++ keep p ys
-    go true e = ap (λ (l : List ℕ). x ∷ l) e
-    go false e = e
 
 -- one number more: it is kept, or not
 pub keep-one : (p : ℕ → Bool) (n : ℕ) → T (p (suc n)) → keep p (upTo (suc n)) ≡ keep p (upTo n) ++ suc n ∷ []

@@ -5,7 +5,6 @@ use mathlib.Core.Option.{none, some}
 use Prim.Native.Nat.{ℕ, _-_, _≤_, _<_}
 use native.Mathlib.Omega.{arith}
 use lib.ListN.{length, take, drop, length-take, length-drop}
-use lib.Seq.{take-all}
 use borrow.Author.Tests.{lt-ltb, le-ltb}
 use Rattle.rules.specs.Sizes.{mostBytes, leastWorkspace}
 use Rattle.rules.specs.Text.{Bytes}
@@ -17,6 +16,7 @@ use Rattle.rules.specs.declared.Board.{Board}
 use Rattle.rules.specs.declared.Player.{Player}
 use Rattle.rules.specs.declared.Verdict.{Verdict}
 use Rattle.rules.specs.declared.Verdict.the-variants.{LongText, BadHeader}
+use Rattle.rules.proofs.Lists.{part-from}
 use Rattle.rules.proofs.Lines.{header-is}
 use Rattle.rules.proofs.WellRead.{well-read}
 use Rattle.cells.specs.Cells.{Fits}
@@ -35,9 +35,6 @@ use Rattle.loading.specs.declared.SheetRead.the-variants as SheetRead
 -- the part of a text from a place on
 pub part-within : (s : Bytes) (at : ℕ) → length (take (length s - at) (drop at s)) ≤ length s
 part-within s at = omega (arith, length-take (length s - at) (drop at s), length-drop at s)
-
-part-from : (s : Bytes) (at : ℕ) → take (length s - at) (drop at s) ≡ drop at s
-part-from s at = take-all (length s - at) (drop at s) (omega (arith, length-drop at s))
 
 -- what the header's reading told, and the part of the text after it
 pub header-body : (t : Bytes) (h : Header) (end : ℕ) → Reads t 0 headerLine (some (h, end)) → some (h, take (length t - end) (drop end t)) ≡ headerLine t

@@ -154,7 +154,7 @@ snoc-in : (xs : List ℕ) (c y : ℕ) → T (among (xs ++ c ∷ []) y) → T (eq
 unfolding among
 snoc-in xs c y h = elim (in-append y xs (c ∷ []) h) [ inl i ↦ inr i | inr i ↦ elim (cases (eqb y c) false i) [ inl e ↦ inl e | inr e ↦ absurd e ] ]
 
-mine-next : (s : Sheet) (g : Game) (x : ℕ) (k : Choice (g .open-waits)) → mine s (next g x k) ≡ mine s g ++ taken (g .open-waits) k ∷ []
+pub mine-next : (s : Sheet) (g : Game) (x : ℕ) (k : Choice (g .open-waits)) → mine s (next g x k) ≡ mine s g ++ taken (g .open-waits) k ∷ []
 unfolding mine next
 mine-next s g x k = sym (append-assoc (stone (s .root .cell)) (g .answers) (taken (g .open-waits) k ∷ []))
 

@@ -76,7 +76,7 @@ snoc : {b : Board} {s : ℕ → Bool} {z x : ℕ} (y : ℕ) → T (s y) → T (a
 snoc y hy hn (here h) = step y h hn (here hy)
 snoc y hy hn (step w hx hw c) = step w hx hw (snoc y hy hn c)
 
-chain-from : {b : Board} {s : ℕ → Bool} {z x : ℕ} → Chain b s z x → T (s x)
+pub chain-from : {b : Board} {s : ℕ → Bool} {z x : ℕ} → Chain b s z x → T (s x)
 chain-from (here h) = h
 chain-from (step w hx hw c) = hx
 

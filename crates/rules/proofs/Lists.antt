@@ -1,11 +1,12 @@
 -- Laws of the words of `specs/Words`: lists of numbers as sets, what is kept, the numbers 1 to n.
 use mathlib.Core.Path.{_≡_, refl, ap, subst, subst⁻¹, _∙_}
 use mathlib.Core.Logic.{_≢_, _⊎_, inl, inr}
-use Prim.Native.Nat.{ℕ, zero, suc, _+_, _≤_}
+use Prim.Native.Nat.{ℕ, zero, suc, _+_, _-_, _≤_}
 use mathlib.Core.Bool.{Bool, true, false, not, _||_}
 use mathlib.Core.List.{List, [], _∷_, _++_}
 use lib.Dec.{T, eqb, eqb→eq, eqb-refl}
-use lib.ListN.{length}
+use lib.ListN.{length, take, drop, length-drop}
+use lib.Seq.{take-all}
 use native.Mathlib.Decide.{ℕ-discrete}
 use native.Mathlib.Omega.{arith}
 use Rattle.rules.specs.Words.{if_then_else_, _∈_, at-head, in-tail, among, keep, any, upTo}
@@ -15,7 +16,21 @@ use Rattle.rules.proofs.Tests.{holds-of, left, right, cases}
 pub not-nil : {A : Type 0} {x : A} {xs ys : List A} → ys ≡ x ∷ xs → ys ≢ []
 not-nil e f = let z : _≡_ {A = ℕ} 0 1 = cc in omega arith
 
+-- the part of a list from a place on, as a slice has it
+pub part-from : (xs : List ℕ) (at : ℕ) → take (length xs - at) (drop at xs) ≡ drop at xs
+part-from xs at = take-all (length xs - at) (drop at xs) (omega (arith, length-drop at xs))
+
 -- keep
+pub keep-append : (p : ℕ → Bool) (xs ys : List ℕ) → keep p (xs ++ ys) ≡ keep p xs ++ keep p ys
+unfolding keep
+keep-append p [] ys = refl
+keep-append p (x ∷ xs) ys = go (p x) (keep-append p xs ys)
+  where
+    go : (t : Bool) → keep p (xs ++ ys) ≡ keep p xs ++ keep p ys
+        → (if t then x ∷ keep p (xs ++ ys) else keep p (xs ++ ys)) ≡ (if t then x ∷ keep p xs else keep p xs) ++ keep p ys
+    go true e = ap (λ (l : List ℕ). x ∷ l) e
+    go false e = e
+
 keep-in-step : (p : ℕ → Bool) (x y : ℕ) (ys : List ℕ) (b : Bool) → p y ≡ b → (T (among (keep p ys) x) → T (among ys x) × T (p x))
     → T (among (if b then y ∷ keep p ys else keep p ys) x) → T (among (y ∷ ys) x) × T (p x)
 unfolding among

@@ -14,19 +14,9 @@ use Rattle.rules.specs.Fair.{Fault, faultAt, firstFault}
 use Rattle.rules.specs.Plain.{IsFirst}
 use Rattle.rules.specs.declared.Board.{Board}
 use Rattle.rules.proofs.Tests.{fst, left, cases}
-use Rattle.rules.proofs.Lists.{in-append, keep-in, up-to-in, all-cons, nothing-in}
+use Rattle.rules.proofs.Lists.{in-append, keep-append, keep-in, up-to-in, all-cons, nothing-in}
 use Rattle.rules.proofs.Joining.{listed-in, in-listed}
 use Rattle.rules.proofs.Steps.{none≢some, some-inj}
-
-keep-append : (p : ℕ → Bool) (xs ys : List ℕ) → keep p (xs ++ ys) ≡ keep p xs ++ keep p ys
-unfolding keep
-keep-append p [] ys = refl
-keep-append p (x ∷ xs) ys = go (p x) (keep-append p xs ys)
-  where
-    go : (t : Bool) → keep p (xs ++ ys) ≡ keep p xs ++ keep p ys
-        → (if t then x ∷ keep p (xs ++ ys) else keep p (xs ++ ys)) ≡ (if t then x ∷ keep p xs else keep p xs) ++ keep p ys
-    go true e = ap (λ (l : List ℕ). x ∷ l) e
-    go false e = e
 
 -- the first of a list that gets a number more at its end, which is above all before
 first-snoc : (xs : List ℕ) (n : ℕ) → ((y : ℕ) → T (among xs y) → (firstOrNone xs ≤ y) × (y ≤ n))
