@@ -245,8 +245,8 @@ mutual
   wait-read (suc levels) b s w v e =
       let p = go-got (nodeLine b waitLine (suc levels) s) _ (w, v) e in
       let n = node-read b waitLine (suc levels) s (p .0) (p .1) in
-      let q = go-got (inTurn (p .0 .0 .under) (readMove levels b moveLine) (p .0 .1)) _ (w, v) (p .2) in
-      let t = turns (p .0 .0 .under) (readMove levels b moveLine) (p .0 .1) (q .0) (q .1) in
+      let q = go-got (inTurn _ (readMove levels b moveLine) (p .0 .1)) _ (w, v) (p .2) in
+      let t = turns _ (readMove levels b moveLine) (p .0 .1) (q .0) (q .1) in
       let g = moves-turned b levels (readMove levels b moveLine) (λ s′ m u e′. move-read levels b moveLine (record { of = λ t y h. move-is t y h .0 }) s′ m u e′) (t .0) in
       let drop-one : suc levels - 1 ≡ levels = omega arith in
       let says = wait-says (s .text) (n .line-read) (n .by-reader) in
