@@ -3,5 +3,4 @@ pub mod Bytes
 pub mod Digits
 pub mod Numbers
 pub mod Lines
-pub mod OnBoard
 pub mod OneReply

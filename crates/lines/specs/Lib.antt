@@ -1,4 +1,3 @@
 pub mod Run
 pub mod Parts
 pub mod Seen
-pub mod Numbered

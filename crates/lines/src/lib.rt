@@ -1,5 +1,4 @@
-// lines: the lines of a sheet, read from its bytes: line 1, the lines of moves and of waits, and the number of the cell
-// that a line names. It sees rules.
+// lines: the lines of a sheet, read from its bytes: line 1, and the lines of moves and of waits. It sees rules.
 ghost use mathlib.Core.Path.{_≡_};
 ghost use Prim.Native.Nat.{_+_, _*_, _-_, _<_, _≤_, min};
 ghost use lib.ListN.{length, drop};
@@ -8,8 +7,7 @@ ghost use Rattle.rules.specs.Text.{byte, word, digits, wellSpelled, numberIn};
 ghost use Rattle.rules.specs.Lines as L;
 ghost use Rattle.lines.specs.Run.{ceiling, runAt};
 ghost use Rattle.lines.specs.Parts as parts;
-ghost use Rattle.lines.specs.Seen.{Reads, placeOf, nextSeen, numberSeen, cellSeen, lineSeen, boardSeen, playerSeen, headerSeen};
-ghost use Rattle.lines.specs.Numbered.{numbered};
+ghost use Rattle.lines.specs.Seen.{Reads, nextSeen, numberSeen, cellSeen, lineSeen, boardSeen, playerSeen, headerSeen};
 use rules::Board;
 use rules::Player;
 
@@ -395,45 +393,4 @@ pub fn header_line(s: &[u8]) -> HeaderRead
         return HeaderRead::Nothing;
     };
     HeaderRead::Got { board, player, end }
-}
-
-// A cell's number, 0 where a line names none; or the cell is off the board.
-pub enum Numbered {
-    On(u32),
-    Off,
-}
-
-// The number of the cell at a column and a row.
-fn number_at(board: Board, column: u32, row: u32) -> Numbered
-    requires { ⌜ (board .columns ≤ 255) × (board .rows ≤ 255) ⌝ }
-    ensures { λ r. ⌜ r ≡ numbered board (placeOf (Cell.At column row)) ⌝ }
-{
-    let c = column as usize;
-    let r = row as usize;
-    let columns = board.columns;
-    let rows = board.rows;
-    if c < 1 {
-        return Numbered::Off;
-    }
-    if columns < c {
-        return Numbered::Off;
-    }
-    if r < 1 {
-        return Numbered::Off;
-    }
-    if rows < r {
-        return Numbered::Off;
-    }
-    Numbered::On(((r - 1) * columns + c) as u32)
-}
-
-// The number of the cell that a line names.
-pub fn number_on(board: Board, cell: Cell) -> Numbered
-    requires { ⌜ (board .columns ≤ 255) × (board .rows ≤ 255) ⌝ }
-    ensures { λ r. ⌜ r ≡ numbered board (placeOf cell) ⌝ }
-{
-    match cell {
-        Cell::Unnamed => Numbered::On(0),
-        Cell::At { column, row } => number_at(board, column, row),
-    }
 }

@@ -1,3 +1,4 @@
+pub mod OnBoard
 pub mod Line
 pub mod Storing
 pub mod Standing

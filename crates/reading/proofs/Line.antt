@@ -20,15 +20,15 @@ use Rattle.rules.specs.declared.Board.{Board}
 use Rattle.rules.specs.declared.Verdict.the-variants.{BadLine, OffBoard, TooManyNodes, TooDeep, Unfinished}
 use Rattle.rules.proofs.Lists.{not-nil}
 use Rattle.rules.proofs.NodeLine.{LineBegins, LineSeen, sees-end, sees-many, sees-bad, sees-deep, sees-off, sees-line, seen-is}
-use Rattle.lines.specs.Numbered.{numbered}
-use Rattle.lines.specs.declared.Numbered.the-variants.{On}
-use Rattle.lines.proofs.OnBoard.{numbered-on}
 use Rattle.lines.specs.Parts.{lineOf}
 use Rattle.lines.specs.Seen.{Reads}
 use Rattle.lines.specs.declared.Kind.{Kind}
+use Rattle.reading.specs.Numbered.{numbered}
 use Rattle.reading.specs.Spots.{spotOf, Ready}
 use Rattle.reading.specs.Kept.{nextSpot, LineGot}
 use Rattle.reading.specs.declared.Spot.{Spot}
+use Rattle.reading.specs.declared.Numbered.the-variants.{On}
+use Rattle.reading.proofs.OnBoard.{numbered-on}
 
 module _ (b : Board) (r : Reader Line) (levels : ℕ) (body : Bytes) (s : Spot) where
   abbrev comesTo : R.Result (R.Node × R.Spot) → Type 0

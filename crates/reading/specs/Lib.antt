@@ -1,3 +1,4 @@
+pub mod Numbered
 pub mod Spots
 pub mod Storing
 pub mod Kept

@@ -1,19 +1,62 @@
-// reading: from the body of a sheet, the text after its header, to the node table. It holds the reading of node lines and of
-// nodes with all under them. It sees rules, nodes and lines.
+// reading: from the body of a sheet, the text after its header, to the node table. It holds the number of the cell that a line
+// names, the reading of node lines and of nodes with all under them. It sees rules, cells, nodes and lines.
 ghost use mathlib.Core.Path.{_≡_};
+ghost use Prim.Native.Nat.{_≤_};
 ghost use lib.ListN.{length};
 ghost use Rattle.rules.specs.Sizes.{leastWorkspace};
+ghost use Rattle.lines.specs.Seen.{placeOf};
+ghost use Rattle.reading.specs.Numbered.{numbered};
 ghost use Rattle.reading.specs.Spots.{spotOf, Ready};
 ghost use Rattle.reading.specs.Storing.{below, storeAll, storeNode};
 ghost use Rattle.reading.specs.Kept.{SaidKept, ReadKept, BodyReady, BodyKept};
+use lines::Cell;
 use lines::Kind;
 use lines::LineRead;
-use lines::Numbered;
 use lines::node_line;
-use lines::number_on;
 use nodes::set_node;
 use rules::Board;
 use rules::Verdict;
+
+// A cell's number, 0 where a line names none; or the cell is off the board.
+pub enum Numbered {
+    On(u32),
+    Off,
+}
+
+// The number of the cell at a column and a row.
+fn number_at(board: Board, column: u32, row: u32) -> Numbered
+    requires { ⌜ (board .columns ≤ 255) × (board .rows ≤ 255) ⌝ }
+    ensures { λ r. ⌜ r ≡ numbered board (placeOf (Cell.At column row)) ⌝ }
+{
+    let c = column as usize;
+    let r = row as usize;
+    let columns = board.columns;
+    let rows = board.rows;
+    if c < 1 {
+        return Numbered::Off;
+    }
+    if columns < c {
+        return Numbered::Off;
+    }
+    if r < 1 {
+        return Numbered::Off;
+    }
+    if rows < r {
+        return Numbered::Off;
+    }
+    Numbered::On(((r - 1) * columns + c) as u32)
+}
+
+// The number of the cell that a line names.
+pub fn number_on(board: Board, cell: Cell) -> Numbered
+    requires { ⌜ (board .columns ≤ 255) × (board .rows ≤ 255) ⌝ }
+    ensures { λ r. ⌜ r ≡ numbered board (placeOf cell) ⌝ }
+{
+    match cell {
+        Cell::Unnamed => Numbered::On(0),
+        Cell::At { column, row } => number_at(board, column, row),
+    }
+}
 
 // Where the reading stands: the place in the body, the number of the line there, and the nodes read so far.
 struct Spot {

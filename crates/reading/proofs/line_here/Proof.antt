@@ -4,7 +4,7 @@ use native.Mathlib.Omega.{arith}
 use borrow.Author.Needs.{needs}
 use Rattle.lines.specs.Seen.{lineSeen}
 use Rattle.lines.proofs.Steps.{seen}
-use Rattle.lines.proofs.OnBoard.{numbered-off}
+use Rattle.reading.proofs.OnBoard.{numbered-off}
 use Rattle.reading.proofs.Line.{line-unfinished, line-many, line-bad, line-deep, line-off, line-kept}
 use Rattle.reading.proofs.line_here.Statement.{statement}
 use Rattle.reading.proofs.line_here.Tie as tie

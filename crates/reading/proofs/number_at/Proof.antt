@@ -1,9 +1,9 @@
 -- `number_at` meets its contract. Four tests say whether the cell is on the board; there its number is small.
 use native.Mathlib.Omega.{arith}
 use Rattle.rules.specs.Board.{cellAt}
-use Rattle.lines.proofs.OnBoard.{off-board, on-board, small-product}
-use Rattle.lines.proofs.number_at.Statement.{statement}
-use Rattle.lines.proofs.number_at.Tie as tie
+use Rattle.reading.proofs.OnBoard.{off-board, on-board, small-product}
+use Rattle.reading.proofs.number_at.Statement.{statement}
+use Rattle.reading.proofs.number_at.Tie as tie
 
 returns : tie.Need-returns
 returns c = off-board _ _ _ (λ i. omega arith)

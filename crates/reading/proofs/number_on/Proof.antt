@@ -1,8 +1,8 @@
 -- `number_on` meets its contract. A line that names no cell has the number 0.
 use Rattle.rules.specs.Reading.{within, cellOf}
 use borrow.Author.Needs.{needs}
-use Rattle.lines.proofs.number_on.Statement.{statement}
-use Rattle.lines.proofs.number_on.Tie as tie
+use Rattle.reading.proofs.number_on.Statement.{statement}
+use Rattle.reading.proofs.number_on.Tie as tie
 
 enum-told : tie.Need-enum-told
 enum-told c = search needs

@@ -11,8 +11,8 @@ use Rattle.rules.specs.Lines.{Place}
 use Rattle.rules.specs.Reading.{within, cellOf}
 use Rattle.rules.specs.declared.Board.{Board}
 use Rattle.rules.proofs.Tests.{true-of, false-of, fst, snd, both}
-use Rattle.lines.specs.Numbered.{numbered}
-use Rattle.lines.specs.declared.Numbered.the-variants.{On, Off}
+use Rattle.reading.specs.Numbered.{numbered}
+use Rattle.reading.specs.declared.Numbered.the-variants.{On, Off}
 
 -- column c, row r is on the board
 pub record Inside (b : Board) (c r : ℕ) : Type 0 where
