@@ -11,7 +11,7 @@ use native.Mathlib.Omega.{arith}
 use borrow.Author.Tests.{le-leb, lt-leb}
 use Rattle.rules.specs.Text.{Bytes, isDigit, digits, afterDigits, spelled}
 use Rattle.lines.specs.Run.{ceiling, runFrom}
-use Rattle.lines.specs.declared.Run.{Run}
+use Rattle.lines.specs.declared.numbers.Run.{Run}
 
 -- what is spelled before the last digits counts only up to the ceiling
 cut : (n d : ℕ) → min ceiling (min ceiling n * 10 + d) ≡ min ceiling (n * 10 + d)

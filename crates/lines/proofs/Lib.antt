@@ -1,6 +1,7 @@
 pub mod Steps
 pub mod Bytes
 pub mod Digits
-pub mod Numbers
-pub mod Lines
+pub mod NumberIn
+pub mod HeaderParts
+pub mod NodeParts
 pub mod OneReply

@@ -9,14 +9,14 @@ use Rattle.rules.specs.Lines as L
 use Rattle.rules.proofs.Steps.{none≢some, some-inj}
 use Rattle.lines.specs.Seen.{Reads, placeOf, lineSeen, headerSeen}
 use Rattle.lines.specs.Parts.{lineOf}
-use Rattle.lines.specs.declared.Kind.{Kind}
-use Rattle.lines.specs.declared.Cell.{Cell}
-use Rattle.lines.specs.declared.Cell.the-variants as Cell
-use Rattle.lines.specs.declared.Line.{Line}
-use Rattle.lines.specs.declared.LineRead.{LineRead}
-use Rattle.lines.specs.declared.LineRead.the-variants as LineRead
-use Rattle.lines.specs.declared.HeaderRead.{HeaderRead}
-use Rattle.lines.specs.declared.HeaderRead.the-variants as HeaderRead
+use Rattle.lines.specs.declared.nodes.Kind.{Kind}
+use Rattle.lines.specs.declared.nodes.Cell.{Cell}
+use Rattle.lines.specs.declared.nodes.Cell.the-variants as Cell
+use Rattle.lines.specs.declared.nodes.Line.{Line}
+use Rattle.lines.specs.declared.nodes.LineRead.{LineRead}
+use Rattle.lines.specs.declared.nodes.LineRead.the-variants as LineRead
+use Rattle.lines.specs.declared.header.HeaderRead.{HeaderRead}
+use Rattle.lines.specs.declared.header.HeaderRead.the-variants as HeaderRead
 
 -- what a reader gives at a place, and where the text goes on after it
 one-read : {A : Type 0} {s : Bytes} {at : ℕ} {reader : Reader A} (x y : Option (A × ℕ)) → Reads s at reader x → Reads s at reader y → x ≡ y

@@ -4,7 +4,8 @@ use Prim.Native.Nat.{ℕ}
 use mathlib.Core.Option.{Option, none, some}
 use native.Mathlib.Omega.{arith}
 use lib.ListN.{drop}
-use Rattle.rules.specs.Text.{Bytes, Reader, bind, _>>=_, give, _orElse_}
+use Rattle.rules.specs.Text.{Bytes, Reader, bind, _>>=_, _>>_, give, lineFeed, _orElse_}
+use Rattle.lines.specs.Parts.{closed}
 use Rattle.lines.specs.Seen.{Passed, PassedTo, Reads}
 
 further : {A : Type 0} {s : Bytes} {at i : ℕ} (o : Option (A × ℕ)) → Passed s at i → PassedTo s i o → PassedTo s at o
@@ -50,6 +51,18 @@ pub regroup : {A B C : Type 0} (m : Option (A × Bytes)) (f : A → Reader B) (g
 unfolding bind
 regroup none f g = refl
 regroup (some x) f g = refl
+
+-- readers that give the same may stand for each other after a first one
+pub same-after : {A B : Type 0} (m : Option (A × Bytes)) (f g : A → Reader B) → ((a : A) (t : Bytes) → f a t ≡ g a t) → bind m f ≡ bind m g
+unfolding bind
+same-after none f g h = refl
+same-after (some x) f g h = h (x .0) (x .1)
+
+-- a line's last field and its end, and what is made of them
+pub closes : {A B : Type 0} (field : Reader A) (f : A → B) (t : Bytes)
+    → bind (closed field t) (λ a. give (f a)) ≡ bind (field t) (λ a. lineFeed >> give (f a))
+unfolding closed bind give
+closes field f t = regroup (field t) _ _ ∙ same-after (field t) _ _ (λ a u. regroup (lineFeed u) _ _)
 
 -- what a function's answer stands for, where the answer is known
 pub seen : {A E : Type 0} {s : Bytes} {at : ℕ} {r : Reader A} {v w : E} (f : E → Option (A × ℕ))

@@ -6,8 +6,8 @@ use Rattle.rules.specs.Sizes.{largest}
 use Rattle.rules.specs.Text.{Reader, _>>=_, _>>_, _orElse_, give, byte, word, tab, lineFeed, numberIn}
 use Rattle.rules.specs.Lines.{Place, Line, place, moveLine, dashLine, waitLine}
 use Rattle.rules.specs.declared.Board.{Board}
-use Rattle.lines.specs.declared.Kind.{Kind}
-use Rattle.lines.specs.declared.Kind.the-variants.{First, Move, Wait}
+use Rattle.lines.specs.declared.nodes.Kind.{Kind}
+use Rattle.lines.specs.declared.nodes.Kind.the-variants.{First, Move, Wait}
 
 -- a line's first letter and the tab after it
 unfoldable pub begun : ℕ → Reader (Unit {0})

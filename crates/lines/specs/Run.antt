@@ -2,7 +2,7 @@
 use Prim.Native.Nat.{ℕ, _+_, min}
 use lib.ListN.{length, drop}
 use Rattle.rules.specs.Text.{Bytes, digits, spelled}
-use Rattle.lines.specs.declared.Run.{Run}
+use Rattle.lines.specs.declared.numbers.Run.{Run}
 
 -- the code counts no further than this
 abbrev pub ceiling : ℕ

@@ -7,23 +7,23 @@ use Rattle.rules.specs.Text.{Bytes, Reader}
 use Rattle.rules.specs.Lines as L
 use Rattle.rules.specs.declared.Board.{Board}
 use Rattle.rules.specs.declared.Player.{Player}
-use Rattle.lines.specs.declared.Next.{Next}
-use Rattle.lines.specs.declared.Next.the-variants as Next
-use Rattle.lines.specs.declared.NumberRead.{NumberRead}
-use Rattle.lines.specs.declared.NumberRead.the-variants as NumberRead
-use Rattle.lines.specs.declared.Cell.{Cell}
-use Rattle.lines.specs.declared.Cell.the-variants as Cell
-use Rattle.lines.specs.declared.CellRead.{CellRead}
-use Rattle.lines.specs.declared.CellRead.the-variants as CellRead
-use Rattle.lines.specs.declared.Line.{Line}
-use Rattle.lines.specs.declared.LineRead.{LineRead}
-use Rattle.lines.specs.declared.LineRead.the-variants as LineRead
-use Rattle.lines.specs.declared.BoardRead.{BoardRead}
-use Rattle.lines.specs.declared.BoardRead.the-variants as BoardRead
-use Rattle.lines.specs.declared.PlayerRead.{PlayerRead}
-use Rattle.lines.specs.declared.PlayerRead.the-variants as PlayerRead
-use Rattle.lines.specs.declared.HeaderRead.{HeaderRead}
-use Rattle.lines.specs.declared.HeaderRead.the-variants as HeaderRead
+use Rattle.lines.specs.declared.numbers.Next.{Next}
+use Rattle.lines.specs.declared.numbers.Next.the-variants as Next
+use Rattle.lines.specs.declared.numbers.NumberRead.{NumberRead}
+use Rattle.lines.specs.declared.numbers.NumberRead.the-variants as NumberRead
+use Rattle.lines.specs.declared.nodes.Cell.{Cell}
+use Rattle.lines.specs.declared.nodes.Cell.the-variants as Cell
+use Rattle.lines.specs.declared.nodes.CellRead.{CellRead}
+use Rattle.lines.specs.declared.nodes.CellRead.the-variants as CellRead
+use Rattle.lines.specs.declared.nodes.Line.{Line}
+use Rattle.lines.specs.declared.nodes.LineRead.{LineRead}
+use Rattle.lines.specs.declared.nodes.LineRead.the-variants as LineRead
+use Rattle.lines.specs.declared.header.BoardRead.{BoardRead}
+use Rattle.lines.specs.declared.header.BoardRead.the-variants as BoardRead
+use Rattle.lines.specs.declared.header.PlayerRead.{PlayerRead}
+use Rattle.lines.specs.declared.header.PlayerRead.the-variants as PlayerRead
+use Rattle.lines.specs.declared.header.HeaderRead.{HeaderRead}
+use Rattle.lines.specs.declared.header.HeaderRead.the-variants as HeaderRead
 
 -- what was read, and the place after it, as a reader's answer
 abbrev pub fromPlace : {A : Type 0} → Bytes → Option (A × ℕ) → Option (A × Bytes)

@@ -1,13 +1,13 @@
 -- What `nodeLine` comes to at a place of the body, refusal by refusal.
 use mathlib.Core.Path.{_≡_, refl, sym, ap, subst, subst⁻¹, _∙_}
-use Prim.Native.Nat.{ℕ, zero, suc, _+_, _≤_, _<_}
+use Prim.Native.Nat.{ℕ, _+_, _≤_, _<_}
 use native.Mathlib.Nat.{eq-zero-or-pos}
 use native.Mathlib.Omega.{arith}
 use mathlib.Core.Logic.{_≢_, ⊎-elim}
-use mathlib.Core.List.{[], _∷_}
+use mathlib.Core.List.{[]}
 use mathlib.Core.Bool.{Bool, true, false}
 use mathlib.Core.Option.{Option, none, some}
-use lib.ListN.{length, getD, drop, drop-of-length-le}
+use lib.ListN.{length, drop, drop-of-length-le}
 use lib.Seq.{drop-cons}
 use lib.Dec.{T, ltb}
 use borrow.Author.Tests.{ltb-true, ltb-false}
@@ -22,7 +22,7 @@ use Rattle.rules.proofs.Lists.{not-nil}
 use Rattle.rules.proofs.NodeLine.{LineBegins, LineSeen, sees-end, sees-many, sees-bad, sees-deep, sees-off, sees-line, seen-is}
 use Rattle.lines.specs.Parts.{lineOf}
 use Rattle.lines.specs.Seen.{Reads}
-use Rattle.lines.specs.declared.Kind.{Kind}
+use Rattle.lines.specs.declared.nodes.Kind.{Kind}
 use Rattle.reading.specs.Numbered.{numbered}
 use Rattle.reading.specs.Spots.{spotOf, Ready}
 use Rattle.reading.specs.Kept.{nextSpot, LineGot}

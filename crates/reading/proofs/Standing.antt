@@ -1,6 +1,6 @@
 -- Storing and reading come to the same: where rules reads a node, the table holds it; where rules refuses, the code does.
 use mathlib.Core.Path.{_≡_, refl, ap, _∙_, subst, subst⁻¹}
-use Prim.Native.Nat.{ℕ, zero, suc, _+_, _-_, _≤_, _<_}
+use Prim.Native.Nat.{ℕ, zero, suc, _+_, _≤_, _<_}
 use native.Mathlib.Omega.{arith}
 use mathlib.Core.List.{List, [], _∷_}
 use mathlib.Core.Bool.{Bool, true, false}
@@ -20,8 +20,8 @@ use Rattle.nodes.specs.Nodes as N
 use Rattle.nodes.specs.Table.{withNode, Row, Each, nothing, first, At, Stand}
 use Rattle.nodes.proofs.Table.{Agree, agree-within, row-agree, stand-agree, stored-row, stored-before}
 use Rattle.lines.specs.Parts.{lineOf}
-use Rattle.lines.specs.declared.Kind.{Kind}
-use Rattle.lines.specs.declared.Kind.the-variants as K
+use Rattle.lines.specs.declared.nodes.Kind.{Kind}
+use Rattle.lines.specs.declared.nodes.Kind.the-variants as K
 use Rattle.reading.specs.Storing.{below, Stored, storeAll, storeUnder, storeNode}
 use Rattle.reading.proofs.Storing.{length-node}
 

@@ -11,7 +11,7 @@ use Rattle.rules.specs.declared.Board.{Board}
 use Rattle.rules.specs.declared.Verdict.{Verdict}
 use Rattle.nodes.specs.Table.{withNode}
 use Rattle.lines.specs.Parts.{lineOf}
-use Rattle.lines.specs.declared.Kind.{Kind}
+use Rattle.lines.specs.declared.nodes.Kind.{Kind}
 use Rattle.reading.specs.Spots.{spotOf, Ready}
 use Rattle.reading.specs.Storing.{below, Stored, storeAll, storeUnder, storeNode}
 use Rattle.reading.specs.Kept.{readSeen, ReadyAfter, ReadKept, LineGot, SaidKept, nextSpot}

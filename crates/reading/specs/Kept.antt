@@ -11,11 +11,11 @@ use Rattle.rules.specs.declared.Player.{Player}
 use Rattle.cells.specs.Cells.{Fits}
 use Rattle.nodes.specs.Nodes.{aMove, nodesOfWaits}
 use Rattle.nodes.specs.Table.{Row, At}
-use Rattle.lines.specs.declared.Kind.the-variants.{First}
+use Rattle.lines.specs.declared.nodes.Kind.the-variants.{First}
 use Rattle.rules.specs.Reading as R
 use Rattle.rules.specs.declared.Board.{Board}
 use Rattle.lines.specs.Parts.{lineOf}
-use Rattle.lines.specs.declared.Kind.{Kind}
+use Rattle.lines.specs.declared.nodes.Kind.{Kind}
 use Rattle.reading.specs.Spots.{spotOf, Ready}
 use Rattle.reading.specs.declared.Spot.{Spot}
 use Rattle.reading.specs.Storing.{Stored, storeNode}

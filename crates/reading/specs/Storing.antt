@@ -5,8 +5,8 @@ use Rattle.rules.specs.Reading.{Result, refused, got, Spot, Node, nodeLine}
 use Rattle.rules.specs.declared.Board.{Board}
 use Rattle.nodes.specs.Table.{withNode}
 use Rattle.lines.specs.Parts.{lineOf}
-use Rattle.lines.specs.declared.Kind.{Kind}
-use Rattle.lines.specs.declared.Kind.the-variants.{First, Move, Wait}
+use Rattle.lines.specs.declared.nodes.Kind.{Kind}
+use Rattle.lines.specs.declared.nodes.Kind.the-variants.{First, Move, Wait}
 
 -- under a move stand waits, under a wait moves
 abbrev pub below : Kind → Kind
