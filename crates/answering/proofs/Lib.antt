@@ -1,6 +1,6 @@
 -- The laws of answering that belong to no one function.
 pub mod Rows
-pub mod Naming
+pub mod Holding
 pub mod Marks
 pub mod Choosing
 pub mod Marking

@@ -15,9 +15,9 @@ use Rattle.nodes.specs.Table.{countIn, endIn, Each, At}
 use Rattle.nodes.proofs.Trees.{move-first}
 use Rattle.answering.specs.Rows.{EndedOn}
 use Rattle.answering.specs.Marks.{Open, none-open, open-at, Opens, SomeOpen, SomeWaiting}
-use Rattle.answering.specs.Choosing.{namedAt, touchedIn, nodeThere, without, Dodge, SomeDodge}
+use Rattle.answering.specs.Choosing.{holdsAt, touchedIn, nodeThere, without, Dodge, SomeDodge}
 use Rattle.answering.specs.declared.Found.the-variants as found
-use Rattle.answering.proofs.Naming.{wait-named, move-named, named-room}
+use Rattle.answering.proofs.Holding.{wait-held, move-held, named-room}
 use Rattle.answering.proofs.Marks.{First, open-skip, open-first, open-end, open-some}
 use Rattle.answering.proofs.Choosing.{Mapped, mapped, touched-here, touched-later, touched-none}
 
@@ -57,21 +57,21 @@ module _ {t : List ℕ} {x end i : ℕ} (l : Looking t x end i) where
       }
 
   -- the open wait at node i holds x
-  pub looking-found : i < end → countIn t i ≡ 1 → 1 ≤ x → true ≡ namedAt t i x → (n₁ : ℕ) (b : Board) (ws : Waits) → Opens n₁ b t ws → found.At i ≡ touchedIn n₁ x ws
+  pub looking-found : i < end → countIn t i ≡ 1 → 1 ≤ x → true ≡ holdsAt t i x → (n₁ : ℕ) (b : Board) (ws : Waits) → Opens n₁ b t ws → found.At i ≡ touchedIn n₁ x ws
   looking-found p m q f n₁ b ws o =
       let d = first-left p m n₁ b ws o in
       let e : i ≡ d .line - n₁ = omega (arith, d .here .line-is) in
       sym
       (l .left n₁ b ws o .same
       ∙ ap (touchedIn n₁ x) (d .are)
-      ∙ touched-here n₁ x (d .line) (d .moves) (d .others) (sym (f ∙ wait-named x q (d .moves) (d .here .at)))
+      ∙ touched-here n₁ x (d .line) (d .moves) (d .others) (sym (f ∙ wait-held x q (d .moves) (d .here .at)))
       ∙ ap found.At (sym e))
 
   -- it does not
   pub looking-on : i < end → countIn t i ≡ 1 → SomeOpen t → i < endIn t i
   looking-on p m s = omega (arith, first-left p m (s .first) (s .board) (s .waits) (s .are-open) .here .at .here .end)
 
-  pub looking-again : i < end → countIn t i ≡ 1 → 1 ≤ x → false ≡ namedAt t i x → Looking t x end (endIn t i)
+  pub looking-again : i < end → countIn t i ≡ 1 → 1 ≤ x → false ≡ holdsAt t i x → Looking t x end (endIn t i)
   looking-again p m q f =
       record {
         end-is = l .end-is;
@@ -83,7 +83,7 @@ module _ {t : List ℕ} {x end i : ℕ} (l : Looking t x end i) where
               same =
                   l .left n₁ b ws o .same
                   ∙ ap (touchedIn n₁ x) (d .are)
-                  ∙ touched-later n₁ x (d .line) (d .moves) (d .others) (sym (f ∙ wait-named x q (d .moves) (d .here .at)));
+                  ∙ touched-later n₁ x (d .line) (d .moves) (d .others) (sym (f ∙ wait-held x q (d .moves) (d .here .at)));
             };
       }
 
@@ -196,15 +196,15 @@ module _ {t : List ℕ} {i x next : ℕ} (l : Dodging t i x next) where
   pub dodging-on : SomeDodge t i x → next < endIn t next
   dodging-on s = omega (arith, dodging-step s .at .here .end)
 
-  pub dodging-again : 1 ≤ x → true ≡ namedAt t next x → Dodging t i x (endIn t next)
+  pub dodging-again : 1 ≤ x → true ≡ holdsAt t next x → Dodging t i x (endIn t next)
   dodging-again q f =
       record {
         left = λ b ms p d.
             let m = move-step (l .left b ms p d) in
-            m .later (sym (f ∙ move-named x q (m .waits) (m .at)));
+            m .later (sym (f ∙ move-held x q (m .waits) (m .at)));
       }
 
-  pub dodging-done : 1 ≤ x → false ≡ namedAt t next x → (b : Board) (ms : Moves) (p : PlaceIn ms) → Dodge b t i x ms p → next ≡ nodeThere i ms p
+  pub dodging-done : 1 ≤ x → false ≡ holdsAt t next x → (b : Board) (ms : Moves) (p : PlaceIn ms) → Dodge b t i x ms p → next ≡ nodeThere i ms p
   dodging-done q f b ms p d =
       let m = move-step (l .left b ms p d) in
-      m .here (sym (f ∙ move-named x q (m .waits) (m .at)))
+      m .here (sym (f ∙ move-held x q (m .waits) (m .at)))

@@ -23,8 +23,8 @@ cellsFrom t i zero = []
 cellsFrom t i (suc n) = cellIn t i ∷ cellsFrom t (i + 1) n
 
 -- x is named at node i or at one of the nodes under it
-unfoldable pub namedAt : List ℕ → (i x : ℕ) → Bool
-namedAt t i x = among (cellsFrom t i (endIn t i - i)) x
+unfoldable pub holdsAt : List ℕ → (i x : ℕ) → Bool
+holdsAt t i x = among (cellsFrom t i (endIn t i - i)) x
 
 -- the node of the first of the waits that holds x
 unfoldable pub touchedIn : (first : ℕ) → ℕ → Waits → Found

@@ -12,7 +12,7 @@ ghost use Rattle.nodes.specs.Nodes.{aMove, Nodes};
 ghost use Rattle.nodes.specs.Table.{endIn, At, SomeNode};
 ghost use Rattle.answering.specs.Rows.{Ended, withMark, Cleared, marked, Started};
 ghost use Rattle.answering.specs.Marks.{Opens, SomeOpen, SomeWaiting};
-ghost use Rattle.answering.specs.Choosing.{namedAt, touchedIn, nodeThere, Dodge, SomeDodge, Asked, SomeAsked, Chosen, Answered};
+ghost use Rattle.answering.specs.Choosing.{holdsAt, touchedIn, nodeThere, Dodge, SomeDodge, Asked, SomeAsked, Chosen, Answered};
 ghost use Rattle.answering.specs.Playing.{Playable, SomePlayable, refusalOf, checked, PlaysMoves};
 use cells::Cells;
 use cells::is_cell;
@@ -92,10 +92,10 @@ fn open_under(t: &mut [u32], i: usize)
     }
 }
 
-// Whether the cell is named at node i or under it.
-fn names(t: &[u32], i: usize, cell: usize) -> bool
+// Whether the cells of node i and under it hold the cell.
+fn holds(t: &[u32], i: usize, cell: usize) -> bool
     requires { ⌜ (4 * i + 3 < length (now t)) × (4 * endIn (now t) i ≤ length (now t)) ⌝ }
-    ensures { λ r. ⌜ r ≡ namedAt (now (t .entry)) i cell ⌝ }
+    ensures { λ r. ⌜ r ≡ holdsAt (now (t .entry)) i cell ⌝ }
 {
     let end = end_at(t, i);
     let mut node = i;
@@ -117,7 +117,7 @@ fn touched(t: &[u32], cell: usize) -> Found
     let mut i = 1;
     while i < end {
         if count_at(t, i) == 1 {
-            if names(t, i, cell) {
+            if holds(t, i, cell) {
                 return Found::At(i);
             }
             i = end_at(t, i);
@@ -146,7 +146,7 @@ fn first_without(t: &[u32], i: usize, cell: usize) -> usize
     ensures { λ r. ⌜ ((b : declared.Board) (ms : Moves) (p : PlaceIn ms) → Dodge b (now (t .entry)) i cell ms p → r ≡ nodeThere i ms p) ⌝ }
 {
     let mut next = i;
-    while names(t, next, cell) {
+    while holds(t, next, cell) {
         next = end_at(t, next);
     }
     next

@@ -16,7 +16,7 @@ use Rattle.nodes.specs.Table.{underIn, RowOn, At, SomeNode}
 use Rattle.nodes.specs.Collecting.{CollectsAny}
 use Rattle.nodes.proofs.Trees.{waits-cells, moves-cells}
 use Rattle.nodes.proofs.Walk.{Walking, walking-starts, walking-child, walking-again, walking-ends}
-use Rattle.fair.specs.Faults.{MoveAt, FoundAtMove, FoundAtWait, Adds}
+use Rattle.fair.specs.Faults.{MoveAt, FoundAtMove, FoundAtWait, OneMoreSet}
 
 -- in how many of the nodes x is found, and whether in every one
 unfoldable pub holdingIn : Kind → Nodes → ℕ → ℕ
@@ -93,7 +93,7 @@ tallying-starts b t cell once twice i under e o w =
 module _ {b : Board} {t : List ℕ} {cell : ℕ} {once twice : List ℕ} {i under next j : ℕ} (w : Tallying b t cell once twice i under next j) where
   -- the cells of one more wait are in the tally
   pub tallying-again : j < under → SomeNode (RowOn b t) aMove i → {none more once′ twice′ : List ℕ} {to : ℕ}
-      → CollectsAny aWait b t next none more to → ((x : ℕ) → held b none x ≡ false) → Adds once twice more once′ twice′
+      → CollectsAny aWait b t next none more to → ((x : ℕ) → held b none x ≡ false) → OneMoreSet once twice more once′ twice′
       → Tallying b t cell once′ twice′ i under to (j + 1)
   unfolding holdingIn
   tallying-again p n {none} {more} {once′} {twice′} h e d =

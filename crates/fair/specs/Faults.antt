@@ -78,6 +78,6 @@ abbrev pub FoundAt : Test → Board → List ℕ → ℕ → List ℕ → Type 0
 FoundAt test b t i rows = (n : TreeNode) → NodeAt b t i n → (x : ℕ) → 1 ≤ x → held b rows x ≡ faultyBy test n x
 
 -- one more set in a tally of the cells found once or more, and twice or more
-pub record Adds (once twice more once′ twice′ : List ℕ) : Type 0 where
+pub record OneMoreSet (once twice more once′ twice′ : List ℕ) : Type 0 where
   pub once-are : (b : Board) (x : ℕ) → held b once′ x ≡ (held b once x || held b more x)
   pub twice-are : (b : Board) (x : ℕ) → held b twice′ x ≡ (held b twice x || (held b once x && held b more x))

@@ -9,7 +9,7 @@ ghost use Rattle.cells.specs.Cells.{Fits};
 ghost use Rattle.nodes.specs.Nodes.{aWait, aMove};
 ghost use Rattle.nodes.specs.Table.{underIn, RowOn, SomeNode};
 ghost use Rattle.nodes.specs.Sheets.{HoldsSheet, SomeSheet};
-ghost use Rattle.fair.specs.Faults.{FaultFound, firstBy, SomeTreeNode, FoundAtMove, FoundAtWait, FoundAt, Adds};
+ghost use Rattle.fair.specs.Faults.{FaultFound, firstBy, SomeTreeNode, FoundAtMove, FoundAtWait, FoundAt, OneMoreSet};
 use cells::Cells;
 use nodes::cell_at;
 use nodes::collect_move;
@@ -41,7 +41,7 @@ struct Seen {
 impl Seen {
     // One more set in the tally.
     fn add(self, more: Cells) -> Seen
-        ensures { λ r. ⌜ Adds (self .once .rows) (self .twice .rows) (more .rows) (r .once .rows) (r .twice .rows) ⌝ }
+        ensures { λ r. ⌜ OneMoreSet (self .once .rows) (self .twice .rows) (more .rows) (r .once .rows) (r .twice .rows) ⌝ }
     {
         let once = self.once;
         let twice = self.twice;

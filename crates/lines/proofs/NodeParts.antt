@@ -8,10 +8,10 @@ use lib.Dec.{eqb}
 use borrow.Author.Tests.{eqb-true}
 use Rattle.rules.specs.Sizes.{mostUnder}
 use Rattle.rules.specs.Text.{Bytes, Reader, bind, _>>=_, _>>_, _orElse_, give, guard, anyByte, byte, word, tab, lineFeed, numberIn}
-use Rattle.rules.specs.Lines.{Place, Line, place, letter, moveLine, dashLine, waitLine}
+use Rattle.rules.specs.Lines.{Place, Line, place, letter, moveLine, dashLine, waitLine, readerOf}
 use Rattle.rules.proofs.Steps.{none≢some}
-use Rattle.lines.specs.Parts.{begun, closed, named, dashed, name, cellLine, lineOf}
-use Rattle.lines.specs.declared.nodes.Kind.{Kind}
+use Rattle.lines.specs.Parts.{begun, closed, aCell, dashed, name, cellLine}
+use Rattle.rules.specs.declared.LineKind.{LineKind}
 use Rattle.lines.specs.Seen.{Reads}
 use Rattle.lines.proofs.Steps.{regroup, same-after, closes, first-way, other-way}
 
@@ -45,8 +45,8 @@ lineWith cell = do
   q ← cell
   afterCell q
 
-move-parts : (t : Bytes) → lineWith named t ≡ moveLine t
-unfolding lineWith begun named moveLine word bind give
+move-parts : (t : Bytes) → lineWith aCell t ≡ moveLine t
+unfolding lineWith begun aCell moveLine word bind give
 move-parts t =
     begin (byte 109 t) _ _ (λ u. regroup (place u) _ _ ∙ same-after (place u) _ _ (λ p v. after-cell (some p) v))
 
@@ -75,8 +75,8 @@ either-after none d f h = refl
 either-after (some x) d f h = rw (h x refl) (either-none (f (x .0) (x .1)))
 
 -- a cell does not begin with `-`
-no-dash : (t : Bytes) (x : Option Place × Bytes) → named t ≡ some x → dashed t ≡ none
-unfolding named dashed place letter word byte anyByte bind guard
+no-dash : (t : Bytes) (x : Option Place × Bytes) → aCell t ≡ some x → dashed t ≡ none
+unfolding aCell dashed place letter word byte anyByte bind guard
 no-dash [] x h = refl
 no-dash (b ∷ t) x h = go (eqb b 45) refl
   where
@@ -85,12 +85,12 @@ no-dash (b ∷ t) x h = go (eqb b 45) refl
     go false e = rw e
 
 either-cell : (m : Option (Unit {0} × Bytes))
-    → bind m (λ _. (named orElse dashed) >>= afterCell) ≡ either (bind m (λ _. named >>= afterCell)) (bind m (λ _. dashed >>= afterCell))
+    → bind m (λ _. (aCell orElse dashed) >>= afterCell) ≡ either (bind m (λ _. aCell >>= afterCell)) (bind m (λ _. dashed >>= afterCell))
 unfolding bind _orElse_
 either-cell none = refl
-either-cell (some x) = either-after (named (x .1)) (dashed (x .1)) afterCell (no-dash (x .1))
+either-cell (some x) = either-after (aCell (x .1)) (dashed (x .1)) afterCell (no-dash (x .1))
 
-first-parts : (t : Bytes) → lineWith (named orElse dashed) t ≡ (moveLine orElse dashLine) t
+first-parts : (t : Bytes) → lineWith (aCell orElse dashed) t ≡ (moveLine orElse dashLine) t
 unfolding _orElse_ lineWith
 first-parts t =
     either-cell (begun 109 t) ∙ ap (λ m. either m (lineWith dashed t)) (move-parts t) ∙ ap (either (moveLine t)) (dash-parts t)
@@ -103,20 +103,20 @@ cell-parts true t = first-parts t
 
 -- a cell or `-`: from what each of them gives
 module _ {s : Bytes} {at : ℕ} where
-  pub name-cell : {x : Option Place × ℕ} (dash : Bool) → Reads s at named (some x) → Reads s at (name dash) (some x)
+  pub name-cell : {x : Option Place × ℕ} (dash : Bool) → Reads s at aCell (some x) → Reads s at (name dash) (some x)
   unfolding name
   name-cell false p = p
   name-cell true p = first-way dashed p
 
-  pub name-none : (dash : Bool) → dash ≡ false → Reads s at named none → Reads s at (name dash) none
+  pub name-none : (dash : Bool) → dash ≡ false → Reads s at aCell none → Reads s at (name dash) none
   unfolding name
   name-none dash e p = rw e p
 
   pub name-dash : {o : Option (Option Place × ℕ)} (dash : Bool) → dash ≡ true
-      → Reads s at named none → Reads s at dashed o → Reads s at (name dash) o
+      → Reads s at aCell none → Reads s at dashed o → Reads s at (name dash) o
   unfolding name
   name-dash dash e p q = rw e (other-way p q)
 
 -- what the line of a kind gives, where the kind is known
-pub of-kind : {s : Bytes} {at : ℕ} {o : Option (Line × ℕ)} {k l : Kind} → k ≡ l → Reads s at (lineOf l) o → Reads s at (lineOf k) o
-of-kind {s} {at} {o} e p = subst⁻¹ (λ (k : Kind). Reads s at (lineOf k) o) e p
+pub of-kind : {s : Bytes} {at : ℕ} {o : Option (Line × ℕ)} {k l : LineKind} → k ≡ l → Reads s at (readerOf l) o → Reads s at (readerOf k) o
+of-kind {s} {at} {o} e p = subst⁻¹ (λ (k : LineKind). Reads s at (readerOf k) o) e p

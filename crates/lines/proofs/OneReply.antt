@@ -4,12 +4,12 @@ use Prim.Native.Nat.{ℕ}
 use native.Mathlib.Omega.{arith}
 use mathlib.Core.Option.{Option, none, some}
 use lib.ListN.{length, drop, length-drop}
+use Rattle.rules.specs.Lines.{readerOf}
 use Rattle.rules.specs.Text.{Bytes, Reader}
 use Rattle.rules.specs.Lines as L
 use Rattle.rules.proofs.Steps.{none≢some, some-inj}
 use Rattle.lines.specs.Seen.{Reads, placeOf, lineSeen, headerSeen}
-use Rattle.lines.specs.Parts.{lineOf}
-use Rattle.lines.specs.declared.nodes.Kind.{Kind}
+use Rattle.rules.specs.declared.LineKind.{LineKind}
 use Rattle.lines.specs.declared.nodes.Cell.{Cell}
 use Rattle.lines.specs.declared.nodes.Cell.the-variants as Cell
 use Rattle.lines.specs.declared.nodes.Line.{Line}
@@ -53,7 +53,7 @@ same-cell (Cell.At a b) Cell.Unnamed e = absurd (none≢some (sym e))
 same-cell Cell.Unnamed (Cell.At c d) e = absurd (none≢some e)
 same-cell Cell.Unnamed Cell.Unnamed e = refl
 
-pub one-line : {s : Bytes} {at : ℕ} (k : Kind) (r r′ : LineRead) → Reads s at (lineOf k) (lineSeen r) → Reads s at (lineOf k) (lineSeen r′) → r ≡ r′
+pub one-line : {s : Bytes} {at : ℕ} (k : LineKind) (r r′ : LineRead) → Reads s at (readerOf k) (lineSeen r) → Reads s at (readerOf k) (lineSeen r′) → r ≡ r′
 one-line k r r′ p q = seen r r′ (one-read (lineSeen r) (lineSeen r′) p q)
   where
     seen : (r r′ : LineRead) → lineSeen r ≡ lineSeen r′ → r ≡ r′

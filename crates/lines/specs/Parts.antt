@@ -4,10 +4,8 @@ use mathlib.Core.Bool.{Bool, true, false}
 use mathlib.Core.Option.{Option, none, some}
 use Rattle.rules.specs.Sizes.{largest}
 use Rattle.rules.specs.Text.{Reader, _>>=_, _>>_, _orElse_, give, byte, word, tab, lineFeed, numberIn}
-use Rattle.rules.specs.Lines.{Place, Line, place, moveLine, dashLine, waitLine}
+use Rattle.rules.specs.Lines.{Place, Line, place, moveLine, dashLine}
 use Rattle.rules.specs.declared.Board.{Board}
-use Rattle.lines.specs.declared.nodes.Kind.{Kind}
-use Rattle.lines.specs.declared.nodes.Kind.the-variants.{First, Move, Wait}
 
 -- a line's first letter and the tab after it
 unfoldable pub begun : ℕ → Reader (Unit {0})
@@ -31,8 +29,8 @@ closed field = do
   give a
 
 -- a cell, or where it may stand, `-` instead
-unfoldable pub named : Reader (Option Place)
-named = do
+unfoldable pub aCell : Reader (Option Place)
+aCell = do
   p ← place
   give (some p)
 
@@ -40,16 +38,10 @@ unfoldable pub dashed : Reader (Option Place)
 dashed = word "-" >> give none
 
 unfoldable pub name : (dash : Bool) → Reader (Option Place)
-name false = named
-name true = named orElse dashed
+name false = aCell
+name true = aCell orElse dashed
 
 -- a move's line: the first node's, where `-` may stand, or another's
 abbrev pub cellLine : (dash : Bool) → Reader Line
 cellLine false = moveLine
 cellLine true = moveLine orElse dashLine
-
--- the line of each kind of node
-abbrev pub lineOf : Kind → Reader Line
-lineOf First = moveLine orElse dashLine
-lineOf Move = moveLine
-lineOf Wait = waitLine

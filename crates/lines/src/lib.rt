@@ -7,7 +7,6 @@ mod numbers;
 pub use header::HeaderRead;
 pub use header::header_line;
 pub use nodes::Cell;
-pub use nodes::Kind;
 pub use nodes::Line;
 pub use nodes::LineRead;
 pub use nodes::node_line;

@@ -8,6 +8,7 @@ use crate::numbers::Next;
 use crate::numbers::NumberRead;
 use crate::numbers::byte_at;
 use crate::numbers::number_in;
+use rules::LineKind;
 
 // The highest row that a cell's name may have.
 const HIGHEST_ROW: u32 = 99;
@@ -48,7 +49,7 @@ enum CellRead {
 
 // A cell is a lower-case letter and a number 1 to 99.
 fn place_at(s: &[u8], at: usize) -> CellRead
-    ensures { λ r. ⌜ Reads (now (s .entry)) at parts.named (cellSeen r) ⌝ }
+    ensures { λ r. ⌜ Reads (now (s .entry)) at parts.aCell (cellSeen r) ⌝ }
 {
     let NumberRead::Got {
         value: column,
@@ -161,20 +162,13 @@ fn wait_line(s: &[u8], at: usize) -> LineRead
     }
 }
 
-// The kinds of nodes, as their lines are read: the first node, a move under a wait, a wait.
-pub enum Kind {
-    First,
-    Move,
-    Wait,
-}
-
 // The line of a node of the kind: only the first node may have `-` instead of a cell.
-pub fn node_line(s: &[u8], at: usize, kind: Kind) -> LineRead
-    ensures { λ r. ⌜ Reads (now (s .entry)) at (parts.lineOf kind) (lineSeen r) ⌝ }
+pub fn node_line(s: &[u8], at: usize, kind: LineKind) -> LineRead
+    ensures { λ r. ⌜ Reads (now (s .entry)) at (L.readerOf kind) (lineSeen r) ⌝ }
 {
     match kind {
-        Kind::First => cell_line(s, at, true),
-        Kind::Move => cell_line(s, at, false),
-        Kind::Wait => wait_line(s, at),
+        LineKind::First => cell_line(s, at, true),
+        LineKind::Move => cell_line(s, at, false),
+        LineKind::Wait => wait_line(s, at),
     }
 }

@@ -19,7 +19,7 @@ use Rattle.rules.proofs.Steps.{not-refused, got-inj}
 use Rattle.nodes.specs.Nodes as N
 use Rattle.nodes.specs.Nodes.{nodesOfWaits}
 use Rattle.nodes.specs.Table.{Row, At}
-use Rattle.lines.specs.declared.nodes.Kind.the-variants as K
+use Rattle.rules.specs.declared.LineKind.the-variants as K
 use Rattle.reading.specs.Spots.{spotOf, Ready}
 use Rattle.reading.specs.Storing.{Stored, storeNode}
 use Rattle.reading.specs.Kept.{readSeen, ReadyAfter, ReadKept, bodySpot, BodyReady, BodyKept}

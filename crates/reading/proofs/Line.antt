@@ -13,16 +13,15 @@ use lib.Dec.{T, ltb}
 use borrow.Author.Tests.{ltb-true, ltb-false}
 use Rattle.rules.specs.Sizes.{mostNodes}
 use Rattle.rules.specs.Text.{Bytes, Reader}
-use Rattle.rules.specs.Lines.{Line, Place}
+use Rattle.rules.specs.Lines.{Line, Place, readerOf}
 use Rattle.rules.specs.Reading as R
 use Rattle.rules.specs.Reading.{refused, got, within, nodeHere, nodeLine}
 use Rattle.rules.specs.declared.Board.{Board}
 use Rattle.rules.specs.declared.Verdict.the-variants.{BadLine, OffBoard, TooManyNodes, TooDeep, Unfinished}
 use Rattle.rules.proofs.Lists.{not-nil}
 use Rattle.rules.proofs.NodeLine.{LineBegins, LineSeen, sees-end, sees-many, sees-bad, sees-deep, sees-off, sees-line, seen-is}
-use Rattle.lines.specs.Parts.{lineOf}
 use Rattle.lines.specs.Seen.{Reads}
-use Rattle.lines.specs.declared.nodes.Kind.{Kind}
+use Rattle.rules.specs.declared.LineKind.{LineKind}
 use Rattle.reading.specs.Numbered.{numbered}
 use Rattle.reading.specs.Spots.{spotOf, Ready}
 use Rattle.reading.specs.Kept.{nextSpot, LineGot}
@@ -65,15 +64,15 @@ module _ (b : Board) (r : Reader Line) (levels : ℕ) (body : Bytes) (s : Spot) 
         line-got z w = seen _ (sees-line may-begin x q z (subst⁻¹ T w tt))
 
 -- a line that was got, with its cell's number, and the spot after it
-pub line-kept : (b : Board) (k : Kind) (levels : ℕ) (body : Bytes) (s : Spot) (p : Option Place) (under cell next : ℕ) → Ready b body s
-    → s .at < length body → (s .nodes ≡ mostNodes → ⊥) → Reads body (s .at) (lineOf k) (some (record { place = p; under = under }, next)) → (levels ≡ 0 → ⊥)
+pub line-kept : (b : Board) (k : LineKind) (levels : ℕ) (body : Bytes) (s : Spot) (p : Option Place) (under cell next : ℕ) → Ready b body s
+    → s .at < length body → (s .nodes ≡ mostNodes → ⊥) → Reads body (s .at) (readerOf k) (some (record { place = p; under = under }, next)) → (levels ≡ 0 → ⊥)
     → On cell ≡ numbered b p → LineGot b k levels body s cell under next
 unfolding nodeHere
 line-kept b k levels body s p under cell next ready h full q z n =
     let w = numbered-on b p cell n in
     record {
       read =
-          line-got b (lineOf k) levels body s h full (record { place = p; under = under }, drop next body) (sym (q .same)) z (w .inside)
+          line-got b (readerOf k) levels body s h full (record { place = p; under = under }, drop next body) (sym (q .same)) z (w .inside)
           ∙ ap (λ (c : ℕ). got (record { line = s .line; cell = c; under = under }, spotOf body (nextSpot s next))) (w .number);
       ready =
           record {

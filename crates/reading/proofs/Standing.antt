@@ -9,7 +9,7 @@ use lib.Dec.{ltb}
 use borrow.Author.Tests.{ltb-true, ltb-false}
 use Rattle.rules.specs.Sizes.{mostNodes, leastWorkspace}
 use Rattle.rules.specs.Text.{Reader}
-use Rattle.rules.specs.Lines.{Line, waitLine, moveLine}
+use Rattle.rules.specs.Lines.{Line, waitLine, moveLine, readerOf, kindUnder}
 use Rattle.rules.specs.Tree.{Wait, Move, asWaits, asMoves}
 use Rattle.rules.specs.Reading.{Result, refused, got, Spot, Reading, Node, go, give, cellOf, nodeLine, inTurn, readMove, readWait}
 use Rattle.rules.specs.declared.Board.{Board}
@@ -19,10 +19,9 @@ use Rattle.nodes.specs.Nodes.{Nodes, noNodes, node, many, size, nodesOfWaits, n
 use Rattle.nodes.specs.Nodes as N
 use Rattle.nodes.specs.Table.{withNode, Row, Each, nothing, first, At, Stand}
 use Rattle.nodes.proofs.Table.{Agree, agree-within, row-agree, stand-agree, stored-row, stored-before}
-use Rattle.lines.specs.Parts.{lineOf}
-use Rattle.lines.specs.declared.nodes.Kind.{Kind}
-use Rattle.lines.specs.declared.nodes.Kind.the-variants as K
-use Rattle.reading.specs.Storing.{below, Stored, storeAll, storeUnder, storeNode}
+use Rattle.rules.specs.declared.LineKind.{LineKind}
+use Rattle.rules.specs.declared.LineKind.the-variants as K
+use Rattle.reading.specs.Storing.{Stored, storeAll, storeUnder, storeNode}
 use Rattle.reading.proofs.Storing.{length-node}
 
 -- there is room in the table for the nodes that the reading may still give
@@ -164,7 +163,7 @@ unfolding cellOf
 wait-cell {b} {s = s} r = r .its-cell ∙ ap (cellOf b) ((wait-says (s .text) (r .line-read) (r .by-reader)) .0)
 
 module _ (levels : ℕ) (b : Board) (s : Spot) (t : List ℕ) (f : Fine s t) where
-  move-under : (j : Kind) (n : Node) (u : Spot) → NodeRead b (lineOf j) (suc levels) s n u → (q : Result (List Wait × Spot)) (st : Stored)
+  move-under : (j : LineKind) (n : Node) (u : Spot) → NodeRead b (readerOf j) (suc levels) s n u → (q : Result (List Wait × Spot)) (st : Stored)
       → SomeSame N.aWait (λ w. 0) (λ w. nodesOfMoves (w .moves)) (n .under) (withNode t (s .nodes) (n .cell) (n .under)) (u .nodes) q st
       → MoveSame t (s .nodes) (go q (λ ws. give (record { line = n .line; cell = n .cell; waits = asWaits ws }))) st
   unfolding OneSame SomeSame go give
@@ -187,21 +186,21 @@ mutual
   unfolding readMove storeNode storeUnder OneSame go
 
   -- a move, the first one or another
-  pub moves-same : (levels : ℕ) (j : Kind) → below j ≡ K.Wait → (b : Board) (s : Spot) (t : List ℕ) → Fine s t
-      → MoveSame t (s .nodes) (readMove levels b (lineOf j) s) (storeNode levels j b s t)
-  moves-same zero j e b s t f = by-line (nodeLine b (lineOf j) zero s) refl
+  pub moves-same : (levels : ℕ) (j : LineKind) → kindUnder j ≡ K.Wait → (b : Board) (s : Spot) (t : List ℕ) → Fine s t
+      → MoveSame t (s .nodes) (readMove levels b (readerOf j) s) (storeNode levels j b s t)
+  moves-same zero j e b s t f = by-line (nodeLine b (readerOf j) zero s) refl
     where
-      by-line : (r : Result (Node × Spot)) → nodeLine b (lineOf j) zero s ≡ r → MoveSame t (s .nodes) (readMove zero b (lineOf j) s) (storeNode zero j b s t)
+      by-line : (r : Result (Node × Spot)) → nodeLine b (readerOf j) zero s ≡ r → MoveSame t (s .nodes) (readMove zero b (readerOf j) s) (storeNode zero j b s t)
       by-line (refused v) q = rw q
-      by-line (got x) q = absurd (omega (arith, (node-read b (lineOf j) zero s x q) .level-left))
-  moves-same (suc levels) j e b s t f = by-line (nodeLine b (lineOf j) (suc levels) s) refl (λ u v g. waits-same levels b u v g)
+      by-line (got x) q = absurd (omega (arith, (node-read b (readerOf j) zero s x q) .level-left))
+  moves-same (suc levels) j e b s t f = by-line (nodeLine b (readerOf j) (suc levels) s) refl (λ u v g. waits-same levels b u v g)
     where
-      by-line : (r : Result (Node × Spot)) → nodeLine b (lineOf j) (suc levels) s ≡ r
+      by-line : (r : Result (Node × Spot)) → nodeLine b (readerOf j) (suc levels) s ≡ r
           → ((u : Spot) (v : List ℕ) → Fine u v → WaitSame v (u .nodes) (readWait levels b u) (storeNode levels K.Wait b u v))
-          → MoveSame t (s .nodes) (readMove (suc levels) b (lineOf j) s) (storeNode (suc levels) j b s t)
+          → MoveSame t (s .nodes) (readMove (suc levels) b (readerOf j) s) (storeNode (suc levels) j b s t)
       by-line (refused v) q ih = rw q
       by-line (got x) q ih =
-          let n = node-read b (lineOf j) (suc levels) s x q in
+          let n = node-read b (readerOf j) (suc levels) s x q in
           rw (q, e)
           (move-under levels b s t f j (x .0) (x .1) n (inTurn (x .0 .under) (readWait levels b) (x .1)) _
           (some-same N.aWait (λ w. 0) (λ w. nodesOfMoves (w .moves)) (readWait levels b) (storeNode levels K.Wait b) ih (x .0 .under) (x .1)

@@ -2,6 +2,7 @@
 use mathlib.Core.Path.{_≡_}
 use Prim.Native.Nat.{ℕ, _+_, _≤_}
 use mathlib.Core.List.{List}
+use Rattle.rules.specs.Lines.{readerOf}
 use Rattle.rules.specs.Text.{Bytes}
 use lib.ListN.{length}
 use Rattle.rules.specs.Sizes.{mostBytes, mostDepth, leastWorkspace}
@@ -11,11 +12,10 @@ use Rattle.rules.specs.declared.Player.{Player}
 use Rattle.cells.specs.Cells.{Fits}
 use Rattle.nodes.specs.Nodes.{aMove, nodesOfWaits}
 use Rattle.nodes.specs.Table.{Row, At}
-use Rattle.lines.specs.declared.nodes.Kind.the-variants.{First}
+use Rattle.rules.specs.declared.LineKind.the-variants.{First}
 use Rattle.rules.specs.Reading as R
 use Rattle.rules.specs.declared.Board.{Board}
-use Rattle.lines.specs.Parts.{lineOf}
-use Rattle.lines.specs.declared.nodes.Kind.{Kind}
+use Rattle.rules.specs.declared.LineKind.{LineKind}
 use Rattle.reading.specs.Spots.{spotOf, Ready}
 use Rattle.reading.specs.declared.Spot.{Spot}
 use Rattle.reading.specs.Storing.{Stored, storeNode}
@@ -30,14 +30,14 @@ use Rattle.reading.specs.declared.Said.the-variants as Said
 abbrev pub nextSpot : Spot → ℕ → Spot
 nextSpot s next = record { at = next; line = s .line + 1; nodes = s .nodes + 1 }
 
-pub record LineGot (b : Board) (k : Kind) (levels : ℕ) (body : Bytes) (s : Spot) (cell under next : ℕ) : Type 0 where
-  pub read : nodeLine b (lineOf k) levels (spotOf body s) ≡ got (record { line = s .line; cell = cell; under = under }, spotOf body (nextSpot s next))
+pub record LineGot (b : Board) (k : LineKind) (levels : ℕ) (body : Bytes) (s : Spot) (cell under next : ℕ) : Type 0 where
+  pub read : nodeLine b (readerOf k) levels (spotOf body s) ≡ got (record { line = s .line; cell = cell; under = under }, spotOf body (nextSpot s next))
   pub ready : Ready b body (nextSpot s next)
   pub level-left : 1 ≤ levels
 
-abbrev pub SaidKept : Board → Kind → (levels : ℕ) → Bytes → Spot → Said → Type 0
+abbrev pub SaidKept : Board → LineKind → (levels : ℕ) → Bytes → Spot → Said → Type 0
 SaidKept b k levels body s (Said.Got cell under next) = LineGot b k levels body s cell under next
-SaidKept b k levels body s (Said.Refused v) = nodeLine b (lineOf k) levels (spotOf body s) ≡ refused v
+SaidKept b k levels body s (Said.Refused v) = nodeLine b (readerOf k) levels (spotOf body s) ≡ refused v
 
 -- what was read, as rules has it
 abbrev pub readSeen : Bytes → Read → Result R.Spot

@@ -1,18 +1,11 @@
 -- Reading into the table: what the reading of rules comes to without its tree, and the table after it, refused or not.
 use Prim.Native.Nat.{ℕ, zero, suc}
 use mathlib.Core.List.{List}
+use Rattle.rules.specs.Lines.{readerOf, kindUnder}
 use Rattle.rules.specs.Reading.{Result, refused, got, Spot, Node, nodeLine}
 use Rattle.rules.specs.declared.Board.{Board}
 use Rattle.nodes.specs.Table.{withNode}
-use Rattle.lines.specs.Parts.{lineOf}
-use Rattle.lines.specs.declared.nodes.Kind.{Kind}
-use Rattle.lines.specs.declared.nodes.Kind.the-variants.{First, Move, Wait}
-
--- under a move stand waits, under a wait moves
-abbrev pub below : Kind → Kind
-below First = Wait
-below Move = Wait
-below Wait = Move
+use Rattle.rules.specs.declared.LineKind.{LineKind}
 
 -- the spot after what was read, or the refusal; and the table
 pub record Stored : Type 0 where
@@ -31,6 +24,6 @@ storeUnder one s t (refused v) = record { reply = refused v; table = t }
 storeUnder one s t (got x) = storeAll (x .0 .under) one (x .1) (withNode t (s .nodes) (x .0 .cell) (x .0 .under))
 
 -- a node of the kind with all under it, where so many levels are left, its own among them
-unfoldable pub storeNode : (levels : ℕ) → Kind → Board → Spot → List ℕ → Stored
-storeNode zero k b s t = storeUnder (λ u v. record { reply = got u; table = v }) s t (nodeLine b (lineOf k) zero s)
-storeNode (suc levels) k b s t = storeUnder (storeNode levels (below k) b) s t (nodeLine b (lineOf k) (suc levels) s)
+unfoldable pub storeNode : (levels : ℕ) → LineKind → Board → Spot → List ℕ → Stored
+storeNode zero k b s t = storeUnder (λ u v. record { reply = got u; table = v }) s t (nodeLine b (readerOf k) zero s)
+storeNode (suc levels) k b s t = storeUnder (storeNode levels (kindUnder k) b) s t (nodeLine b (readerOf k) (suc levels) s)

@@ -3,18 +3,19 @@
 ghost use mathlib.Core.Path.{_≡_};
 ghost use Prim.Native.Nat.{_≤_};
 ghost use lib.ListN.{length};
+ghost use Rattle.rules.specs.Lines.{kindUnder};
 ghost use Rattle.rules.specs.Sizes.{leastWorkspace};
 ghost use Rattle.lines.specs.Seen.{placeOf};
 ghost use Rattle.reading.specs.Numbered.{numbered};
 ghost use Rattle.reading.specs.Spots.{spotOf, Ready};
-ghost use Rattle.reading.specs.Storing.{below, storeAll, storeNode};
+ghost use Rattle.reading.specs.Storing.{storeAll, storeNode};
 ghost use Rattle.reading.specs.Kept.{SaidKept, ReadKept, BodyReady, BodyKept};
 use lines::Cell;
-use lines::Kind;
 use lines::LineRead;
 use lines::node_line;
 use nodes::set_node;
 use rules::Board;
+use rules::LineKind;
 use rules::Verdict;
 
 // A cell's number, 0 where a line names none; or the cell is off the board.
@@ -48,7 +49,7 @@ fn number_at(board: Board, column: u32, row: u32) -> Numbered
 }
 
 // The number of the cell that a line names.
-pub fn number_on(board: Board, cell: Cell) -> Numbered
+fn number_on(board: Board, cell: Cell) -> Numbered
     requires { ⌜ (board .columns ≤ 255) × (board .rows ≤ 255) ⌝ }
     ensures { λ r. ⌜ r ≡ numbered board (placeOf cell) ⌝ }
 {
@@ -72,7 +73,7 @@ enum Said {
 }
 
 // The line of the next node. In this order: 8, 6, 4, 7, 5.
-fn line_here(body: &[u8], board: Board, kind: Kind, levels: usize, spot: Spot) -> Said
+fn line_here(body: &[u8], board: Board, kind: LineKind, levels: usize, spot: Spot) -> Said
     requires { ⌜ Ready board (now body) spot ⌝ }
     ensures { λ r. ⌜ SaidKept board kind levels (now (body .entry)) spot r ⌝ }
 {
@@ -112,13 +113,13 @@ fn line_here(body: &[u8], board: Board, kind: Kind, levels: usize, spot: Spot) -
 }
 
 // Under a move stand waits, under a wait moves.
-fn kind_below(kind: Kind) -> Kind
-    ensures { λ r. ⌜ r ≡ below kind ⌝ }
+fn kind_below(kind: LineKind) -> LineKind
+    ensures { λ r. ⌜ r ≡ kindUnder kind ⌝ }
 {
     match kind {
-        Kind::First => Kind::Wait,
-        Kind::Move => Kind::Wait,
-        Kind::Wait => Kind::Move,
+        LineKind::First => LineKind::Wait,
+        LineKind::Move => LineKind::Wait,
+        LineKind::Wait => LineKind::Move,
     }
 }
 
@@ -133,7 +134,7 @@ fn read_node(
     body: &[u8],
     table: &mut [u32],
     board: Board,
-    kind: Kind,
+    kind: LineKind,
     levels: usize,
     spot: Spot,
 ) -> Read
@@ -170,7 +171,7 @@ fn read_all(
     body: &[u8],
     table: &mut [u32],
     board: Board,
-    kind: Kind,
+    kind: LineKind,
     levels: usize,
     many: u32,
     spot: Spot,
@@ -212,7 +213,7 @@ pub fn read_body(body: &[u8], table: &mut [u32], board: Board) -> BodyRead
         line: 2,
         nodes: 0,
     };
-    let read = read_node(body, table, board, Kind::First, 128, start);
+    let read = read_node(body, table, board, LineKind::First, 128, start);
     match read {
         Read::Refused { verdict } => BodyRead::Refused { verdict },
         Read::Got { after } => {

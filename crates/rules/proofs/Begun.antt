@@ -7,19 +7,21 @@ use mathlib.Core.Option.{Option, none, some}
 use lib.Dec.{T}
 use native.Mathlib.Omega.{arith}
 use Rattle.rules.specs.Text.{Bytes}
-use Rattle.rules.specs.Lines.{Place, Line}
+use Rattle.rules.specs.Lines.{Place, Line, readerOf, kindUnder}
 use Rattle.rules.specs.Tree.{Waits, noWaits, wait, Moves, noMoves, move, Sheet}
 use Rattle.rules.specs.Written.{writtenHeader, placeOf, howManyWaits, howManyMoves, writtenMove, writtenWait, writtenWaits, writtenMoves, written}
 use Rattle.rules.specs.Reading.{within, cellOf}
-use Rattle.rules.specs.Unread.{Kind, firstMove, aMove, aWait, kindUnder, IsLine, of-move, of-first, of-dash, of-wait, Due, dueAfter, Begins, after-header, after-line}
+use Rattle.rules.specs.Unread.{IsLine, of-move, of-first, of-dash, of-wait, Due, dueAfter, Begins, after-header, after-line}
 use Rattle.rules.specs.declared.Board.{Board}
+use Rattle.rules.specs.declared.LineKind.{LineKind}
+use Rattle.rules.specs.declared.LineKind.the-variants as K
 use Rattle.rules.proofs.Lines.{place-again}
 
 -- the text of one node of a kind with all that is under it, and of nodes one after another, as they are due
-pub data NodeText (b : Board) : Kind → Bytes → Type 0 where
-  first-text : (c : ℕ) (ws : Waits) → NodeText b firstMove (writtenMove (placeOf b c) (howManyWaits ws) ++ writtenWaits b ws)
-  move-text : (c : ℕ) (ws : Waits) → NodeText b aMove (writtenMove (placeOf b c) (howManyWaits ws) ++ writtenWaits b ws)
-  wait-text : (ms : Moves) → NodeText b aWait (writtenWait (howManyMoves ms) ++ writtenMoves b ms)
+pub data NodeText (b : Board) : LineKind → Bytes → Type 0 where
+  first-text : (c : ℕ) (ws : Waits) → NodeText b K.First (writtenMove (placeOf b c) (howManyWaits ws) ++ writtenWaits b ws)
+  move-text : (c : ℕ) (ws : Waits) → NodeText b K.Move (writtenMove (placeOf b c) (howManyWaits ws) ++ writtenWaits b ws)
+  wait-text : (ms : Moves) → NodeText b K.Wait (writtenWait (howManyMoves ms) ++ writtenMoves b ms)
 
 pub data Filled (b : Board) : List Due → Bytes → Type 0 where
   none-due : Filled b [] []
@@ -40,14 +42,13 @@ record MovesFilled (b : Board) (n : ℕ) (ds : List Due) (u : Bytes) : Type 0 wh
   text : u ≡ writtenMoves b moves ++ rest
   filled : Filled b ds rest
 
-wait-of : {b : Board} {k : Kind} {u : Bytes} → k ≡ aWait → NodeText b k u → (ms : Moves) × (u ≡ writtenWait (howManyMoves ms) ++ writtenMoves b ms)
+wait-of : {b : Board} {k : LineKind} {u : Bytes} → k ≡ K.Wait → NodeText b k u → (ms : Moves) × (u ≡ writtenWait (howManyMoves ms) ++ writtenMoves b ms)
 wait-of e (first-text c ws) = let z : _≡_ {A = ℕ} 0 1 = cc in absurd (omega arith)
 wait-of e (move-text c ws) = let z : _≡_ {A = ℕ} 0 1 = cc in absurd (omega arith)
 wait-of e (wait-text ms) = (ms, refl)
 
-move-of : {b : Board} {k : Kind} {u : Bytes} → kindUnder k ≡ aWait → NodeText b k u
+move-of : {b : Board} {k : LineKind} {u : Bytes} → kindUnder k ≡ K.Wait → NodeText b k u
     → (c : ℕ) × (ws : Waits) × (u ≡ writtenMove (placeOf b c) (howManyWaits ws) ++ writtenWaits b ws)
-unfolding kindUnder
 move-of e (first-text c ws) = (c, ws, refl)
 move-of e (move-text c ws) = (c, ws, refl)
 move-of e (wait-text ms) = let z : _≡_ {A = ℕ} 0 1 = cc in absurd (omega arith)
@@ -57,7 +58,7 @@ texts : {u v : Bytes} (line under beside rest : Bytes) → u ≡ line ++ under �
 texts line under beside rest e f = rw (e, f) (simp append-assoc)
 
 module _ (b : Board) (d : Due) (ds : List Due) where
-  waits-filled : (n : ℕ) (u : Bytes) → kindUnder (d .kind) ≡ aWait → Filled b (dueAfter d n ds) u → WaitsFilled b n ds u
+  waits-filled : (n : ℕ) (u : Bytes) → kindUnder (d .kind) ≡ K.Wait → Filled b (dueAfter d n ds) u → WaitsFilled b n ds u
   unfolding dueAfter howManyWaits writtenWaits
   waits-filled zero u k f = record { waits = noWaits; rest = u; many = refl; text = refl; filled = f }
   waits-filled (suc n) _ k (one-due u v x f) =
@@ -71,8 +72,8 @@ module _ (b : Board) (d : Due) (ds : List Due) where
         filled = g .filled;
       }
 
-  moves-filled : (n : ℕ) (u : Bytes) → kindUnder (d .kind) ≡ aMove → Filled b (dueAfter d n ds) u → MovesFilled b n ds u
-  unfolding dueAfter kindUnder howManyMoves writtenMoves
+  moves-filled : (n : ℕ) (u : Bytes) → kindUnder (d .kind) ≡ K.Move → Filled b (dueAfter d n ds) u → MovesFilled b n ds u
+  unfolding dueAfter howManyMoves writtenMoves
   moves-filled zero u k f = record { moves = noMoves; rest = u; many = refl; text = refl; filled = f }
   moves-filled (suc n) _ k (one-due u v x f) =
       let (c, ws, e) = move-of (ap kindUnder k) x in
@@ -86,38 +87,36 @@ module _ (b : Board) (d : Due) (ds : List Due) where
       }
 
 -- a line and what fills the nodes right under it fill the node
-abbrev due : Kind → ℕ → Due
+abbrev due : LineKind → ℕ → Due
 due k depth = record { kind = k; depth = depth }
 
 module _ (b : Board) (depth : ℕ) (ds : List Due) (left : Bytes) (n : ℕ) where
-  move-filled : (k : Kind) → ((c : ℕ) (ws : Waits) → NodeText b k (writtenMove (placeOf b c) (howManyWaits ws) ++ writtenWaits b ws))
+  move-filled : (k : LineKind) → ((c : ℕ) (ws : Waits) → NodeText b k (writtenMove (placeOf b c) (howManyWaits ws) ++ writtenWaits b ws))
       → (o : Option Place) → T (within b o) → WaitsFilled b n ds left → Filled b (due k depth ∷ ds) (writtenMove o n ++ left)
   move-filled k text o on w =
       subst (Filled b (due k depth ∷ ds))
       (append-assoc (writtenMove (placeOf b (cellOf b o)) (howManyWaits (w .waits))) (writtenWaits b (w .waits)) (w .rest) ∙ ap₂ _++_ (ap₂ writtenMove (place-again b o on) (w .many)) (sym (w .text)))
       (one-due _ (w .rest) (text (cellOf b o) (w .waits)) (w .filled))
 
-  wait-filled : MovesFilled b n ds left → Filled b (due aWait depth ∷ ds) (writtenWait n ++ left)
+  wait-filled : MovesFilled b n ds left → Filled b (due K.Wait depth ∷ ds) (writtenWait n ++ left)
   wait-filled m =
-      subst (Filled b (due aWait depth ∷ ds))
+      subst (Filled b (due K.Wait depth ∷ ds))
       (append-assoc (writtenWait (howManyMoves (m .moves))) (writtenMoves b (m .moves)) (m .rest) ∙ ap₂ _++_ (ap writtenWait (m .many)) (sym (m .text)))
       (one-due _ (m .rest) (wait-text (m .moves)) (m .filled))
 
-line-filled : (b : Board) (k : Kind) (depth : ℕ) (ds : List Due) (line left : Bytes) (l : Line) → IsLine k line l → T (within b (l .place))
+line-filled : (b : Board) (k : LineKind) (depth : ℕ) (ds : List Due) (line left : Bytes) (l : Line) → IsLine k line l → T (within b (l .place))
     → Filled b (dueAfter (due k depth) (l .under) ds) left → Filled b (due k depth ∷ ds) (line ++ left)
-unfolding kindUnder
 line-filled b _ depth ds _ left _ (of-move p n h f) on g =
-    move-filled b depth ds left n aMove move-text (some p) on (waits-filled b (due aMove depth) ds n left refl g)
+    move-filled b depth ds left n K.Move move-text (some p) on (waits-filled b (due K.Move depth) ds n left refl g)
 line-filled b _ depth ds _ left _ (of-first p n h f) on g =
-    move-filled b depth ds left n firstMove first-text (some p) on (waits-filled b (due firstMove depth) ds n left refl g)
+    move-filled b depth ds left n K.First first-text (some p) on (waits-filled b (due K.First depth) ds n left refl g)
 line-filled b _ depth ds _ left _ (of-dash n f) on g =
-    move-filled b depth ds left n firstMove first-text none on (waits-filled b (due firstMove depth) ds n left refl g)
-line-filled b _ depth ds _ left _ (of-wait n low f) on g = wait-filled b depth ds left n (moves-filled b (due aWait depth) ds n left refl g)
+    move-filled b depth ds left n K.First first-text none on (waits-filled b (due K.First depth) ds n left refl g)
+line-filled b _ depth ds _ left _ (of-wait n low f) on g = wait-filled b depth ds left n (moves-filled b (due K.Wait depth) ds n left refl g)
 
 -- where the text that is left fills the nodes that are due, the whole text is a tree's
-root-filled : {b : Board} {u : Bytes} → Filled b (record { kind = firstMove; depth = 1 } ∷ []) u
+root-filled : {b : Board} {u : Bytes} → Filled b (record { kind = K.First; depth = 1 } ∷ []) u
     → (c : ℕ) × (ws : Waits) × (u ≡ writtenMove (placeOf b c) (howManyWaits ws) ++ writtenWaits b ws)
-unfolding kindUnder
 root-filled (one-due u _ x none-due) =
     let (c, ws, e) = move-of refl x in
     (c, ws, append-nil u ∙ e)
@@ -131,10 +130,10 @@ tree-begun t b _ _ _ (after-line n d ds line left l a i few deep on) f =
     tree-begun t b n (d ∷ ds) (line ++ left) a (line-filled b (d .kind) (d .depth) ds line left l i on f)
 
 -- nodes that are due can be filled
-fill-one : (b : Board) (k : Kind) → (u : Bytes) × NodeText b k u
-fill-one b firstMove = (_, first-text 1 noWaits)
-fill-one b aMove = (_, move-text 1 noWaits)
-fill-one b aWait = (_, wait-text (move 0 1 noWaits noMoves))
+fill-one : (b : Board) (k : LineKind) → (u : Bytes) × NodeText b k u
+fill-one b K.First = (_, first-text 1 noWaits)
+fill-one b K.Move = (_, move-text 1 noWaits)
+fill-one b K.Wait = (_, wait-text (move 0 1 noWaits noMoves))
 
 pub fill : (b : Board) (ds : List Due) → (u : Bytes) × Filled b ds u
 fill b [] = ([], none-due)

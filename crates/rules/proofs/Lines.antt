@@ -13,12 +13,14 @@ use native.Mathlib.Omega.{arith}
 use Rattle.rules.specs.Sizes.{largest, highestRow, mostUnder}
 use Rattle.rules.specs.Board.{cellAt, isCell, columnOf, rowOf}
 use Rattle.rules.specs.Text.{Bytes, Reader, bind, _>>_, _orElse_, give, guard, anyByte, byte, word, tab, lineFeed, isDigit, digits, number, numberIn}
-use Rattle.rules.specs.Lines.{Place, Line, Header, player, letter, place, moveLine, dashLine, waitLine, headerLine}
+use Rattle.rules.specs.Lines.{Place, Line, Header, player, letter, place, moveLine, dashLine, waitLine, headerLine, readerOf}
 use Rattle.rules.specs.Decimal.{decimal}
-use Rattle.rules.specs.Written.{printed, tabbed, aLine, namedPlayer, writtenHeader, namedPlace, placeOf, writtenMove, writtenWait}
+use Rattle.rules.specs.Written.{printed, tabbed, aLine, writtenPlayer, writtenHeader, writtenPlace, placeOf, writtenMove, writtenWait}
 use Rattle.rules.specs.Reading.{within, cellOf}
-use Rattle.rules.specs.Unread.{BoardSize, Nameable, Kind, firstMove, aMove, aWait, IsLine, of-move, of-first, of-dash, of-wait}
+use Rattle.rules.specs.Unread.{BoardSize, Nameable, IsLine, of-move, of-first, of-dash, of-wait}
 use Rattle.rules.specs.declared.Board.{Board}
+use Rattle.rules.specs.declared.LineKind.{LineKind}
+use Rattle.rules.specs.declared.LineKind.the-variants as K
 use Rattle.rules.specs.declared.Player.{Player}
 use Rattle.rules.specs.declared.Player.the-variants.{D, A}
 use Rattle.rules.proofs.Tests.{fst, snd}
@@ -75,12 +77,12 @@ or-then {A} {X} {y} r q t e k l = go (r t) refl
     go none f = l (rw (f, _orElse_) at e)
     go (some x) f = k (f ∙ rw (f, _orElse_) at e)
 
-player-is : (t : Bytes) (y : Player × Bytes) → player t ≡ some y → t ≡ namedPlayer (y .0) ++ y .1
-unfolding player namedPlayer give
+player-is : (t : Bytes) (y : Player × Bytes) → player t ≡ some y → t ≡ writtenPlayer (y .0) ++ y .1
+unfolding player writtenPlayer give
 player-is t y e =
     or-then (word "D" >> give D) (word "A" >> give A) t e
-    (λ d. word-then "D" t _ d λ u p q. p ∙ ap (λ (z : Player × Bytes). namedPlayer (z .0) ++ z .1) (some-inj q))
-    (λ a. word-then "A" t _ a λ u p q. p ∙ ap (λ (z : Player × Bytes). namedPlayer (z .0) ++ z .1) (some-inj q))
+    (λ d. word-then "D" t _ d λ u p q. p ∙ ap (λ (z : Player × Bytes). writtenPlayer (z .0) ++ z .1) (some-inj q))
+    (λ a. word-then "A" t _ a λ u p q. p ∙ ap (λ (z : Player × Bytes). writtenPlayer (z .0) ++ z .1) (some-inj q))
 
 -- line 1
 pub header-is : (t : Bytes) (y : Header × Bytes) → headerLine t ≡ some y → (t ≡ writtenHeader (y .0 .board) (y .0 .player) ++ y .1) × BoardSize (y .0 .board)
@@ -108,31 +110,26 @@ letter-is (b ∷ t) y e =
     subst (λ (z : ℕ × Bytes). (b ∷ t ≡ (96 + z .0) ∷ z .1) × (1 ≤ z .0) × (z .0 ≤ 26)) (some-inj p)
     (ap (λ (c : ℕ). c ∷ t) back, omega arith, omega arith)
 
-place-is : (t : Bytes) (y : Place × Bytes) → place t ≡ some y → (t ≡ namedPlace (some (y .0)) ++ y .1) × Nameable (y .0)
-unfolding place namedPlace give
+place-is : (t : Bytes) (y : Place × Bytes) → place t ≡ some y → (t ≡ writtenPlace (some (y .0)) ++ y .1) × Nameable (y .0)
+unfolding place writtenPlace give
 place-is t y e =
     step-then letter t _ e λ c u p q.
     number-then 1 highestRow u _ q λ n v r lo hi e′.
     let l = letter-is t (c, u) p in
-    subst (λ (z : Place × Bytes). (t ≡ namedPlace (some (z .0)) ++ z .1) × Nameable (z .0)) (some-inj e′)
+    subst (λ (z : Place × Bytes). (t ≡ writtenPlace (some (z .0)) ++ z .1) × Nameable (z .0)) (some-inj e′)
     (l .0 ∙ ap (λ (v : Bytes). (96 + c) ∷ v) r, record { letters = (l .1, l .2); rows = (lo, hi) })
 
--- the reader of each kind of line; what it read is such a line, before what is left
-unfoldable pub readerOf : Kind → Reader Line
-readerOf firstMove = moveLine orElse dashLine
-readerOf aMove = moveLine
-readerOf aWait = waitLine
-
-pub record LineRead (k : Kind) (t : Bytes) (y : Line × Bytes) : Type 0 where
+-- what the reader of a kind of line read is such a line, before what is left
+pub record LineRead (k : LineKind) (t : Bytes) (y : Line × Bytes) : Type 0 where
   pub line : Bytes
   pub is-line : IsLine k line (y .0)
   pub before : t ≡ line ++ y .1
 
-abbrev placed-line : Place → ℕ → Line
-placed-line p n = record { place = some p; under = n }
+abbrev cell-line : Place → ℕ → Line
+cell-line p n = record { place = some p; under = n }
 
 -- a move's line with a cell, of either kind
-move-line-is : (k : Kind) → ((p : Place) (n : ℕ) → Nameable p → n ≤ mostUnder → IsLine k (writtenMove (some p) n) (placed-line p n)) → (t : Bytes) (y : Line × Bytes)
+move-line-is : (k : LineKind) → ((p : Place) (n : ℕ) → Nameable p → n ≤ mostUnder → IsLine k (writtenMove (some p) n) (cell-line p n)) → (t : Bytes) (y : Line × Bytes)
     → moveLine t ≡ some y → LineRead k t y
 unfolding moveLine writtenMove tab lineFeed printed aLine tabbed give
 move-line-is k of t y e =
@@ -146,54 +143,54 @@ move-line-is k of t y e =
     subst (LineRead k t) (some-inj e₆)
     (record { line = writtenMove (some p) n; is-line = of p n nameable high; before = rw (p₁, p₂, named, p₄, p₅, p₆) (simp append-assoc) })
 
-pub line-is : (k : Kind) (t : Bytes) (y : Line × Bytes) → readerOf k t ≡ some y → LineRead k t y
-unfolding readerOf dashLine waitLine writtenMove writtenWait namedPlace tab lineFeed printed aLine tabbed give
-line-is aMove t y e = move-line-is aMove of-move t y e
-line-is firstMove t y e =
-    or-then moveLine dashLine t e (λ m. move-line-is firstMove of-first t y m) λ d.
+pub line-is : (k : LineKind) (t : Bytes) (y : Line × Bytes) → readerOf k t ≡ some y → LineRead k t y
+unfolding dashLine waitLine writtenMove writtenWait writtenPlace tab lineFeed printed aLine tabbed give
+line-is K.Move t y e = move-line-is K.Move of-move t y e
+line-is K.First t y e =
+    or-then moveLine dashLine t e (λ m. move-line-is K.First of-first t y m) λ d.
     word-then "m" t _ d λ u₁ p₁ e₁.
     byte-then 9 u₁ _ e₁ λ u₂ p₂ e₂.
     word-then "-" u₂ _ e₂ λ u₃ p₃ e₃.
     byte-then 9 u₃ _ e₃ λ u₄ p₄ e₄.
     number-then 0 mostUnder u₄ _ e₄ λ n u₅ p₅ _ high e₅.
     byte-then 10 u₅ _ e₅ λ u₆ p₆ e₆.
-    subst (LineRead firstMove t) (some-inj e₆)
+    subst (LineRead K.First t) (some-inj e₆)
     (record { line = writtenMove none n; is-line = of-dash n high; before = rw (p₁, p₂, p₃, p₄, p₅, p₆) (simp append-assoc) })
-line-is aWait t y e =
+line-is K.Wait t y e =
     word-then "w" t _ e λ u₁ p₁ e₁.
     byte-then 9 u₁ _ e₁ λ u₂ p₂ e₂.
     number-then 1 mostUnder u₂ _ e₂ λ n u₃ p₃ low high e₃.
     byte-then 10 u₃ _ e₃ λ u₄ p₄ e₄.
-    subst (LineRead aWait t) (some-inj e₄)
+    subst (LineRead K.Wait t) (some-inj e₄)
     (record { line = writtenWait n; is-line = of-wait n low high; before = rw (p₁, p₂, p₃, p₄) (simp append-assoc) })
 
 -- what a line of each kind says
-move-says : {line : Bytes} {l : Line} → IsLine aMove line l → (line ≡ writtenMove (l .place) (l .under)) × IsSome (l .place)
+move-says : {line : Bytes} {l : Line} → IsLine K.Move line l → (line ≡ writtenMove (l .place) (l .under)) × IsSome (l .place)
 move-says (of-move p n h f) = (refl, tt)
 
-root-says : {line : Bytes} {l : Line} → IsLine firstMove line l → line ≡ writtenMove (l .place) (l .under)
+root-says : {line : Bytes} {l : Line} → IsLine K.First line l → line ≡ writtenMove (l .place) (l .under)
 root-says (of-first p n h f) = refl
 root-says (of-dash n f) = refl
 
-of-wait-says : {line : Bytes} {l : Line} → IsLine aWait line l → (l .place ≡ none) × (1 ≤ l .under) × (line ≡ writtenWait (l .under))
+of-wait-says : {line : Bytes} {l : Line} → IsLine K.Wait line l → (l .place ≡ none) × (1 ≤ l .under) × (line ≡ writtenWait (l .under))
 of-wait-says (of-wait n h f) = (refl, h, refl)
 
 -- a move's line, and a wait's
 pub move-is : (t : Bytes) (y : Line × Bytes) → moveLine t ≡ some y → (t ≡ writtenMove (y .0 .place) (y .0 .under) ++ y .1) × IsSome (y .0 .place)
 unfolding readerOf
 move-is t y e =
-    let r = line-is aMove t y e in
+    let r = line-is K.Move t y e in
     let says = move-says (r .is-line) in
     (r .before ∙ ap (λ (v : Bytes). v ++ y .1) (says .0), says .1)
 
 pub root-is : (t : Bytes) (y : Line × Bytes) → (moveLine orElse dashLine) t ≡ some y → t ≡ writtenMove (y .0 .place) (y .0 .under) ++ y .1
 unfolding readerOf
-root-is t y e = let r = line-is firstMove t y e in r .before ∙ ap (λ (v : Bytes). v ++ y .1) (root-says (r .is-line))
+root-is t y e = let r = line-is K.First t y e in r .before ∙ ap (λ (v : Bytes). v ++ y .1) (root-says (r .is-line))
 
 pub wait-says : (t : Bytes) (y : Line × Bytes) → waitLine t ≡ some y → (y .0 .place ≡ none) × (1 ≤ y .0 .under) × (t ≡ writtenWait (y .0 .under) ++ y .1)
 unfolding readerOf
 wait-says t y e =
-    let r = line-is aWait t y e in
+    let r = line-is K.Wait t y e in
     let says = of-wait-says (r .is-line) in
     (says .0, says .1, r .before ∙ ap (λ (v : Bytes). v ++ y .1) (says .2))
 
@@ -216,20 +213,20 @@ unfolding aLine tabbed tabbedOn
 line-on f [] u = append-assoc f (10 ∷ []) u
 line-on f (g ∷ gs) u = append-assoc f (9 ∷ g ++ tabbed gs) u ∙ ap (λ (v : Bytes). f ++ 9 ∷ v) (line-on g gs u)
 
-player-back : (p : Player) (u : Bytes) → player (namedPlayer p ++ u) ≡ some (p, u)
-unfolding player namedPlayer printed word byte anyByte guard bind give _orElse_
+player-back : (p : Player) (u : Bytes) → player (writtenPlayer p ++ u) ≡ some (p, u)
+unfolding player writtenPlayer printed word byte anyByte guard bind give _orElse_
 player-back D u = refl
 player-back A u = refl
 
 pub header-back : (b : Board) (p : Player) (u : Bytes) → BoardSize b → headerLine (writtenHeader b p ++ u) ≡ some (record { board = b; player = p }, u)
 unfolding headerLine writtenHeader tabbedOn tab lineFeed byte word anyByte guard bind printed give BoardSize digits isDigit
 header-back b p u z =
-    ap headerLine (line-on (printed "hex") (decimal (b .columns) ∷ decimal (b .rows) ∷ namedPlayer p ∷ []) u)
+    ap headerLine (line-on (printed "hex") (decimal (b .columns) ∷ decimal (b .rows) ∷ writtenPlayer p ∷ []) u)
     ∙ step-back (number-back 1 largest (b .columns) _ (z .0 .0) (z .0 .1) refl) _
     (step-back (number-back 1 largest (b .rows) _ (z .1 .0) (z .1 .1) refl) _ (step-back (player-back p _) _ refl))
 
-place-back : (p : Place) (u : Bytes) → Nameable p → digits u ≡ [] → place (namedPlace (some p) ++ u) ≡ some (p, u)
-unfolding place letter namedPlace anyByte guard bind give
+place-back : (p : Place) (u : Bytes) → Nameable p → digits u ≡ [] → place (writtenPlace (some p) ++ u) ≡ some (p, u)
+unfolding place letter writtenPlace anyByte guard bind give
 place-back p u n e =
     let back : 96 + p .column - 96 ≡ p .column = omega arith in
     rw (le-leb 97 (96 + p .column) (omega arith), le-leb (96 + p .column) 122 (omega arith), back)
@@ -239,11 +236,11 @@ module _ (n : ℕ) (u : Bytes) (few : n ≤ mostUnder) where
   pub move-back : (p : Place) → Nameable p → moveLine (writtenMove (some p) n ++ u) ≡ some (record { place = some p; under = n }, u)
   unfolding moveLine writtenMove tabbedOn tab lineFeed byte word anyByte guard bind printed give digits isDigit
   move-back p h =
-      ap moveLine (line-on (printed "m") (namedPlace (some p) ∷ decimal n ∷ []) u)
+      ap moveLine (line-on (printed "m") (writtenPlace (some p) ∷ decimal n ∷ []) u)
       ∙ step-back (place-back p _ h refl) _ (step-back (number-back 0 mostUnder n _ (omega arith) few refl) _ refl)
 
   pub dash-back : (moveLine orElse dashLine) (writtenMove none n ++ u) ≡ some (record { place = none; under = n }, u)
-  unfolding moveLine dashLine writtenMove namedPlace tabbedOn tab lineFeed byte word anyByte guard bind printed give digits isDigit _orElse_ place letter
+  unfolding moveLine dashLine writtenMove writtenPlace tabbedOn tab lineFeed byte word anyByte guard bind printed give digits isDigit _orElse_ place letter
   dash-back =
       ap (moveLine orElse dashLine) (line-on (printed "m") (printed "-" ∷ decimal n ∷ []) u)
       ∙ step-back (number-back 0 mostUnder n _ (omega arith) few refl) _ refl
@@ -254,8 +251,8 @@ module _ (n : ℕ) (u : Bytes) (few : n ≤ mostUnder) where
       ap waitLine (line-on (printed "w") (decimal n ∷ []) u) ∙ step-back (number-back 1 mostUnder n _ h few refl) _ refl
 
 -- a line of a kind, before any text, is read as what it says
-pub line-back : (k : Kind) (line : Bytes) (l : Line) (u : Bytes) → IsLine k line l → readerOf k (line ++ u) ≡ some (l, u)
-unfolding readerOf _orElse_
+pub line-back : (k : LineKind) (line : Bytes) (l : Line) (u : Bytes) → IsLine k line l → readerOf k (line ++ u) ≡ some (l, u)
+unfolding _orElse_
 line-back _ _ _ u (of-move p n h f) = move-back n u f p h
 line-back _ _ _ u (of-first p n h f) = rw (move-back n u f p h, _orElse_)
 line-back _ _ _ u (of-dash n f) = dash-back n u f

@@ -12,20 +12,22 @@ use native.Mathlib.Omega.{arith}
 use Rattle.rules.specs.Sizes.{mostNodes, mostDepth}
 use Rattle.rules.specs.Words.{_∈_, at-head, in-tail}
 use Rattle.rules.specs.Text.{Bytes}
-use Rattle.rules.specs.Lines.{Line, Header, headerLine}
+use Rattle.rules.specs.Lines.{Line, Header, headerLine, readerOf, kindUnder}
 use Rattle.rules.specs.Tree.{Move, Sheet}
 use Rattle.rules.specs.Written.{printed, aLine, writtenMove, writtenWait}
 use Rattle.rules.specs.Reading.{Result, refused, got, Spot, Reading, go, give, within, cellOf, Node, nodeHere, nodeLine, inTurn, readMove, readWait, ended, readBody, headed, readSheet}
-use Rattle.rules.specs.Unread.{Kind, firstMove, aMove, aWait, kindUnder, IsLine, of-move, of-first, of-dash, of-wait, Due, dueAfter, Begins, after-header, after-line, Unread, no-header, no-line, off-board, one-too-many, too-deep, text-ends, text-remains}
+use Rattle.rules.specs.Unread.{IsLine, of-move, of-first, of-dash, of-wait, Due, dueAfter, Begins, after-header, after-line, Unread, no-header, no-line, off-board, one-too-many, too-deep, text-ends, text-remains}
 use Rattle.rules.specs.Plain.{Spells}
 use Rattle.rules.specs.declared.Board.{Board}
+use Rattle.rules.specs.declared.LineKind.{LineKind}
+use Rattle.rules.specs.declared.LineKind.the-variants as K
 use Rattle.rules.specs.declared.Player.{Player}
 use Rattle.rules.specs.declared.Verdict.{Verdict}
 use Rattle.rules.specs.declared.Verdict.the-variants.{BadHeader, BadLine, OffBoard, TooManyNodes, TooDeep, Unfinished, TextAfter}
 use Rattle.rules.proofs.Tests.{holds-of, false-of, true-of}
 use Rattle.rules.proofs.Lists.{nothing-in, not-nil}
 use Rattle.rules.proofs.Steps.{none≢some, some-inj, not-refused, got-inj}
-use Rattle.rules.proofs.Lines.{header-is, header-back, readerOf, LineRead, line-is, line-back}
+use Rattle.rules.proofs.Lines.{header-is, header-back, LineRead, line-is, line-back}
 use Rattle.rules.proofs.NodeLine.{LineBegins, LineSeen, sees-end, sees-many, sees-bad, sees-deep, sees-off, sees-line, seen-is, line-seen}
 use Rattle.rules.proofs.Reading.{node-read}
 use Rattle.rules.proofs.Written.{reads-exactly}
@@ -97,39 +99,39 @@ module _ (b : Board) where
   turn-follows d (suc n) one h s ds =
       go-follows _ (h s (dueAfter d n ds)) (λ x u. go-follows _ (turn-follows d n one h u ds) (λ xs v. give-follows (x ∷ xs) v ds))
 
-  abbrev due : Kind → ℕ → Due
+  abbrev due : LineKind → ℕ → Due
   due k depth = record { kind = k; depth = depth }
 
   -- where no level is left no line is read
   none-left : (d : Due) (s : Spot) (n : Node) (u : Spot) → levelsAt d ≡ 0 → nextLine b d s ≡ got (n, u) → ⊥
   none-left d s n u l e = omega (arith, l, node-read b (readerOf (d .kind)) (levelsAt d) s (n, u) e .level-left)
 
-  level-under : (k l : Kind) (depth levels : ℕ) → levelsAt (due k depth) ≡ suc levels → levelsAt (due l (suc depth)) ≡ levels
+  level-under : (k l : LineKind) (depth levels : ℕ) → levelsAt (due k depth) ≡ suc levels → levelsAt (due l (suc depth)) ≡ levels
   unfolding levelsAt
   level-under k l depth levels e = omega arith
 
   -- a move, and a wait, with all that is under it
   mutual
-    unfolding readMove readerOf kindUnder
+    unfolding readMove
 
-    move-follows : (levels : ℕ) (k : Kind) (depth : ℕ) → kindUnder k ≡ aWait → levelsAt (due k depth) ≡ levels → (s : Spot) (ds : List Due)
+    move-follows : (levels : ℕ) (k : LineKind) (depth : ℕ) → kindUnder k ≡ K.Wait → levelsAt (due k depth) ≡ levels → (s : Spot) (ds : List Due)
         → Follows b (due k depth ∷ ds) s ds (readMove levels b (readerOf k) s)
     move-follows zero k depth w l s ds =
         node-follows (due k depth) ds s _ (λ n u e. absurd (none-left (due k depth) s n u l e)) _ (ap (λ (i : ℕ). nodeLine b (readerOf k) i s) l)
     move-follows (suc levels) k depth w l s ds =
         node-follows (due k depth) ds s _
         (λ n u e. go-follows _ (turn-follows (due k depth) (n .under) (readWait levels b)
-        (λ v es. subst⁻¹ (λ (j : Kind). Follows b (due j (suc depth) ∷ es) v es (readWait levels b v)) w (wait-follows levels (suc depth) (level-under k aWait depth levels l) v es)) u ds)
+        (λ v es. subst⁻¹ (λ (j : LineKind). Follows b (due j (suc depth) ∷ es) v es (readWait levels b v)) w (wait-follows levels (suc depth) (level-under k K.Wait depth levels l) v es)) u ds)
         (λ ws v. give-follows _ v ds)) _ (ap (λ (i : ℕ). nodeLine b (readerOf k) i s) l)
 
-    wait-follows : (levels depth : ℕ) → levelsAt (due aWait depth) ≡ levels → (s : Spot) (ds : List Due) → Follows b (due aWait depth ∷ ds) s ds (readWait levels b s)
+    wait-follows : (levels depth : ℕ) → levelsAt (due K.Wait depth) ≡ levels → (s : Spot) (ds : List Due) → Follows b (due K.Wait depth ∷ ds) s ds (readWait levels b s)
     wait-follows zero depth l s ds =
-        node-follows (due aWait depth) ds s _ (λ n u e. absurd (none-left (due aWait depth) s n u l e)) _ (ap (λ (i : ℕ). nodeLine b (readerOf aWait) i s) l)
+        node-follows (due K.Wait depth) ds s _ (λ n u e. absurd (none-left (due K.Wait depth) s n u l e)) _ (ap (λ (i : ℕ). nodeLine b (readerOf K.Wait) i s) l)
     wait-follows (suc levels) depth l s ds =
-        node-follows (due aWait depth) ds s _
-        (λ n u e. go-follows _ (turn-follows (due aWait depth) (n .under) (readMove levels b (readerOf aMove))
-        (λ v es. move-follows levels aMove (suc depth) refl (level-under aWait aMove depth levels l) v es) u ds)
-        (λ ms v. give-follows _ v ds)) _ (ap (λ (i : ℕ). nodeLine b (readerOf aWait) i s) l)
+        node-follows (due K.Wait depth) ds s _
+        (λ n u e. go-follows _ (turn-follows (due K.Wait depth) (n .under) (readMove levels b (readerOf K.Move))
+        (λ v es. move-follows levels K.Move (suc depth) refl (level-under K.Wait K.Move depth levels l) v es) u ds)
+        (λ ms v. give-follows _ v ds)) _ (ap (λ (i : ℕ). nodeLine b (readerOf K.Wait) i s) l)
 
 -- of the whole text after line 1
 verdictOf : Result Sheet → Option Verdict
@@ -137,7 +139,7 @@ verdictOf (refused v) = some v
 verdictOf (got s) = none
 
 abbrev start : List Due
-start = record { kind = firstMove; depth = 1 } ∷ []
+start = record { kind = K.First; depth = 1 } ∷ []
 
 abbrev spot : Bytes → ℕ → Spot
 spot t n = record { text = t; line = n + 2; nodes = n }
@@ -152,8 +154,8 @@ ended-runs h s _ (goes x f) = by-text (x .1 .text) refl
     by-text (c ∷ t) e = rw (e, ended) (f (some (TextAfter (x .1 .line))) (remains (x .1) c t e))
 
 body-runs : (h : Header) (t : Bytes) → Runs (h .board) start (spot t 0) (verdictOf (readBody h t))
-unfolding readBody readerOf levelsAt kindUnder
-body-runs h t = ended-runs h (spot t 0) _ (move-follows (h .board) mostDepth firstMove 1 refl refl (spot t 0) [])
+unfolding readBody levelsAt
+body-runs h t = ended-runs h (spot t 0) _ (move-follows (h .board) mostDepth K.First 1 refl refl (spot t 0) [])
 
 -- What a run comes to is said in plain words
 below-most : (n : ℕ) → n ≤ mostNodes → n ≢ mostNodes → n < mostNodes
@@ -236,7 +238,7 @@ run-ends t b (passes d ds s n u r e q) a l few =
     run-ends t b q (begins-at d ds next (i .nodes-after) (i .its-under) (i .text-after)) (omega (arith, l, i .line-after, i .nodes-after)) (omega (arith, fewer, i .nodes-after))
 
 -- What is said in plain words is what a run comes to
-line-not-nil : {k : Kind} {line : Bytes} {l : Line} (after : Bytes) → IsLine k line l → (line ++ after) ≢ []
+line-not-nil : {k : LineKind} {line : Bytes} {l : Line} (after : Bytes) → IsLine k line l → (line ++ after) ≢ []
 unfolding writtenMove writtenWait aLine printed
 line-not-nil after (of-move p n h f) = not-nil refl
 line-not-nil after (of-first p n h f) = not-nil refl
@@ -319,7 +321,7 @@ rest-refused : (t : Bytes) (b : Board) (n : ℕ) (left : Bytes) → Begins t b n
 rest-refused t b n [] a h = absurd (h refl)
 rest-refused t b n (c ∷ u) a h = refused-of (readSheet t) _ (begun-verdict t b n [] (c ∷ u) a _ (remains (spot (c ∷ u) n) c u refl))
 
-none-read : (k : Kind) (left : Bytes) → ((line after : Bytes) (l : Line) → IsLine k line l → left ≢ (line ++ after)) → readerOf k left ≡ none
+none-read : (k : LineKind) (left : Bytes) → ((line after : Bytes) (l : Line) → IsLine k line l → left ≢ (line ++ after)) → readerOf k left ≡ none
 none-read k left h = go (readerOf k left) refl
   where
     go : (o : Option (Line × Bytes)) → readerOf k left ≡ o → o ≡ none

@@ -6,6 +6,8 @@ use lib.Dec.{leb}
 use Rattle.rules.specs.Sizes.{largest, highestRow, mostUnder}
 use Rattle.rules.specs.Text.{Reader, _>>=_, _>>_, _orElse_, give, guard, anyByte, word, tab, lineFeed, numberIn}
 use Rattle.rules.specs.declared.Board.{Board}
+use Rattle.rules.specs.declared.LineKind.{LineKind}
+use Rattle.rules.specs.declared.LineKind.the-variants.{First, Move, Wait}
 use Rattle.rules.specs.declared.Player.{Player}
 use Rattle.rules.specs.declared.Player.the-variants.{D, A}
 
@@ -85,3 +87,15 @@ waitLine = do
   n ← numberIn 1 mostUnder
   lineFeed
   give (record { place = none; under = n })
+
+-- the reader of each kind of node line: only the first node may have `-` instead of a cell
+abbrev pub readerOf : LineKind → Reader Line
+readerOf First = moveLine orElse dashLine
+readerOf Move = moveLine
+readerOf Wait = waitLine
+
+-- the first node is a move; under a move stand waits, under a wait moves
+abbrev pub kindUnder : LineKind → LineKind
+kindUnder First = Wait
+kindUnder Move = Wait
+kindUnder Wait = Move

@@ -8,10 +8,12 @@ use mathlib.Core.Option.{none, some}
 use lib.Dec.{T}
 use Rattle.rules.specs.Sizes.{largest, highestRow, mostUnder, mostNodes, mostDepth}
 use Rattle.rules.specs.Text.{Bytes}
-use Rattle.rules.specs.Lines.{Place, Line}
+use Rattle.rules.specs.Lines.{Place, Line, kindUnder}
 use Rattle.rules.specs.Written.{writtenHeader, writtenMove, writtenWait}
 use Rattle.rules.specs.Reading.{within}
 use Rattle.rules.specs.declared.Board.{Board}
+use Rattle.rules.specs.declared.LineKind.{LineKind}
+use Rattle.rules.specs.declared.LineKind.the-variants as K
 use Rattle.rules.specs.declared.Player.{Player}
 use Rattle.rules.specs.declared.Verdict.{Verdict}
 use Rattle.rules.specs.declared.Verdict.the-variants.{BadHeader, BadLine, OffBoard, TooManyNodes, TooDeep, Unfinished, TextAfter}
@@ -25,28 +27,17 @@ pub record Nameable (p : Place) : Type 0 where
   pub letters : (1 ≤ p .column) × (p .column ≤ 26)
   pub rows : (1 ≤ p .row) × (p .row ≤ highestRow)
 
--- the first node is a move; under a move stand waits, under a wait moves
-pub data Kind : Type 0 where
-  firstMove : Kind
-  aMove : Kind
-  aWait : Kind
-
-unfoldable pub kindUnder : Kind → Kind
-kindUnder firstMove = aWait
-kindUnder aMove = aWait
-kindUnder aWait = aMove
-
 -- A well-formed line of a kind, with its line feed: its text, and what it says. A move: `m`, cell, number of waits under it (0
 -- to 2047); only the first node may have `-` instead. A wait: `w`, number of moves under it (1 to 2047)
-pub data IsLine : Kind → Bytes → Line → Type 0 where
-  of-move : (p : Place) (n : ℕ) → Nameable p → n ≤ mostUnder → IsLine aMove (writtenMove (some p) n) (record { place = some p; under = n })
-  of-first : (p : Place) (n : ℕ) → Nameable p → n ≤ mostUnder → IsLine firstMove (writtenMove (some p) n) (record { place = some p; under = n })
-  of-dash : (n : ℕ) → n ≤ mostUnder → IsLine firstMove (writtenMove none n) (record { place = none; under = n })
-  of-wait : (n : ℕ) → 1 ≤ n → n ≤ mostUnder → IsLine aWait (writtenWait n) (record { place = none; under = n })
+pub data IsLine : LineKind → Bytes → Line → Type 0 where
+  of-move : (p : Place) (n : ℕ) → Nameable p → n ≤ mostUnder → IsLine K.Move (writtenMove (some p) n) (record { place = some p; under = n })
+  of-first : (p : Place) (n : ℕ) → Nameable p → n ≤ mostUnder → IsLine K.First (writtenMove (some p) n) (record { place = some p; under = n })
+  of-dash : (n : ℕ) → n ≤ mostUnder → IsLine K.First (writtenMove none n) (record { place = none; under = n })
+  of-wait : (n : ℕ) → 1 ≤ n → n ≤ mostUnder → IsLine K.Wait (writtenWait n) (record { place = none; under = n })
 
 -- A node that is due, which is still to come: its kind and its depth
 pub record Due : Type 0 where
-  pub kind : Kind
+  pub kind : LineKind
   pub depth : ℕ
 
 -- what is due after a node's line: the n nodes right under it, then what was due after the node
@@ -58,7 +49,7 @@ dueAfter d (suc n) ds = record { kind = kindUnder (d .kind); depth = suc (d .dep
 -- nodes are due then, and this text is left. (So the next line's number is n + 2, and the tree is unfinished while a node is due.)
 pub data Begins (t : Bytes) (b : Board) : (n : ℕ) → List Due → (left : Bytes) → Type 0 where
   after-header : (p : Player) (left : Bytes) → BoardSize b → t ≡ writtenHeader b p ++ left
-      → Begins t b 0 (record { kind = firstMove; depth = 1 } ∷ []) left
+      → Begins t b 0 (record { kind = K.First; depth = 1 } ∷ []) left
   after-line : (n : ℕ) (d : Due) (ds : List Due) (line left : Bytes) (l : Line) → Begins t b n (d ∷ ds) (line ++ left) → IsLine (d .kind) line l
       → n < mostNodes → d .depth ≤ mostDepth → T (within b (l .place)) → Begins t b (n + 1) (dueAfter d (l .under) ds) left
 

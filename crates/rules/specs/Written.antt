@@ -26,18 +26,18 @@ tabbed (f ∷ fs) = 9 ∷ f ++ tabbed fs
 unfoldable pub aLine : (first : Bytes) (others : List Bytes) → Bytes
 aLine f fs = f ++ tabbed fs
 
-unfoldable pub namedPlayer : Player → Bytes
-namedPlayer D = printed "D"
-namedPlayer A = printed "A"
+unfoldable pub writtenPlayer : Player → Bytes
+writtenPlayer D = printed "D"
+writtenPlayer A = printed "A"
 
 -- line 1: `hex`, columns, rows, `D` or `A`
 unfoldable pub writtenHeader : Board → Player → Bytes
-writtenHeader b p = aLine (printed "hex") (decimal (b .columns) ∷ decimal (b .rows) ∷ namedPlayer p ∷ [])
+writtenHeader b p = aLine (printed "hex") (decimal (b .columns) ∷ decimal (b .rows) ∷ writtenPlayer p ∷ [])
 
 -- a cell is its column's letter and its row's number; `-` stands for no cell
-unfoldable pub namedPlace : Option Place → Bytes
-namedPlace none = printed "-"
-namedPlace (some p) = (96 + p .column) ∷ decimal (p .row)
+unfoldable pub writtenPlace : Option Place → Bytes
+writtenPlace none = printed "-"
+writtenPlace (some p) = (96 + p .column) ∷ decimal (p .row)
 
 unfoldable pub placeOf : Board → ℕ → Option Place
 placeOf b zero = none
@@ -54,7 +54,7 @@ howManyMoves (move line c ws ms) = suc (howManyMoves ms)
 
 -- a move: `m`, cell, number of waits under it. A wait: `w`, number of moves under it
 unfoldable pub writtenMove : Option Place → (under : ℕ) → Bytes
-writtenMove p n = aLine (printed "m") (namedPlace p ∷ decimal n ∷ [])
+writtenMove p n = aLine (printed "m") (writtenPlace p ∷ decimal n ∷ [])
 
 unfoldable pub writtenWait : (under : ℕ) → Bytes
 writtenWait n = aLine (printed "w") (decimal n ∷ [])

@@ -13,6 +13,13 @@ pub struct Board {
     pub rows: usize,
 }
 
+// The kinds of node lines: that of the first node, of a move under a wait, of a wait.
+pub enum LineKind {
+    First,
+    Move,
+    Wait,
+}
+
 // What judge counts on a sheet that it accepts.
 pub struct Counts {
     pub moves: u32,

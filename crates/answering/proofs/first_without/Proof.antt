@@ -16,8 +16,8 @@ abbrev μ-loop : tie.MeasureT-loop
 loop-holds : tie.Need-loop-holds Inv-loop μ-loop
 loop-holds c = dodging-starts _ _ _
 
-names-requires : tie.Need-names-requires Inv-loop μ-loop
-names-requires c κs = dodging-room (c .loop .inv) (c .before .before .pre .1)
+holds-requires : tie.Need-holds-requires Inv-loop μ-loop
+holds-requires c κs = dodging-room (c .loop .inv) (c .before .before .pre .1)
 
 end-at-requires : tie.Need-end-at-requires Inv-loop μ-loop
 end-at-requires c κs = dodging-room (c .before .before .loop .inv) (c .before .before .before .before .pre .1) .0
@@ -31,12 +31,12 @@ loop-less c =
 loop-again : tie.Need-loop-again Inv-loop μ-loop
 loop-again c =
     let l = c .before .before .before in
-    let d = dodging-again (l .loop .inv) (l .before .before .pre .0) (sym (c .before .if1 .taken) ∙ c .before .before .names .ensures) in
+    let d = dodging-again (l .loop .inv) (l .before .before .pre .0) (sym (c .before .if1 .taken) ∙ c .before .before .holds .ensures) in
     rw (c .end-at .ensures) d
 
 returns : tie.Need-returns Inv-loop μ-loop
 returns c =
-    dodging-done (c .before .before .loop .inv) (c .before .before .before .before .pre .0) (sym (c .if1 .left) ∙ c .before .names .ensures)
+    dodging-done (c .before .before .loop .inv) (c .before .before .before .before .pre .0) (sym (c .if1 .left) ∙ c .before .holds .ensures)
 
 pub first-without-spec : {M : Type 1} → statement M
 first-without-spec =
@@ -45,7 +45,7 @@ first-without-spec =
     Inv-loop
     μ-loop
     loop-holds
-    names-requires
+    holds-requires
     end-at-requires
     loop-less
     loop-again

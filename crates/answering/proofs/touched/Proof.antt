@@ -21,8 +21,8 @@ loop-holds c = looking-starts (c .end-at .ensures)
 count-at-requires : tie.Need-count-at-requires Inv-loop μ-loop
 count-at-requires c κs = looking-room (c .before .loop .inv) (omega arith) (c .before .before .before .before .pre .1)
 
-names-requires : tie.Need-names-requires Inv-loop μ-loop
-names-requires c κs =
+holds-requires : tie.Need-holds-requires Inv-loop μ-loop
+holds-requires c κs =
     let l = c .before .before .before in
     looking-wait (l .loop .inv) (omega arith) (sym (c .before .count-at .ensures) ∙ c .if1 .taken) (l .before .before .before .pre .1)
 
@@ -31,7 +31,7 @@ returns c =
     let l = c .before .before .before .before .before in
     looking-found (l .loop .inv) (omega arith) (sym (c .before .before .before .count-at .ensures) ∙ c .before .before .if1 .taken)
     (l .before .before .before .pre .0)
-    (sym (c .if2 .taken) ∙ c .before .names .ensures)
+    (sym (c .if2 .taken) ∙ c .before .holds .ensures)
 
 end-at-requires-2 : tie.Need-end-at-requires-2 Inv-loop μ-loop
 end-at-requires-2 c κs =
@@ -48,7 +48,7 @@ loop-again : tie.Need-loop-again Inv-loop μ-loop
 loop-again c =
     let l = c .before .before .before .before .before .before in
     let m = sym (c .before .before .before .before .count-at .ensures) ∙ c .before .before .before .if1 .taken in
-    let d = looking-again (l .loop .inv) (omega arith) m (l .before .before .before .pre .0) (sym (c .before .if2 .left) ∙ c .before .before .names .ensures) in
+    let d = looking-again (l .loop .inv) (omega arith) m (l .before .before .before .pre .0) (sym (c .before .if2 .left) ∙ c .before .before .holds .ensures) in
     rw (c .end-at2 .ensures) d
 
 add-i : tie.Need-add-i Inv-loop μ-loop
@@ -72,7 +72,7 @@ touched-spec =
     end-at-requires
     loop-holds
     count-at-requires
-    names-requires
+    holds-requires
     returns
     end-at-requires-2
     loop-less

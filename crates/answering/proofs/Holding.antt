@@ -16,7 +16,7 @@ use Rattle.nodes.specs.Nodes.{Kind, aWait, aMove, Nodes, size, nodesOfWaits, no
 use Rattle.nodes.specs.Table.{cellIn, endIn, Each, first, At}
 use Rattle.nodes.proofs.Table.{node-end}
 use Rattle.answering.specs.Rows.{EndedOn}
-use Rattle.answering.specs.Choosing.{cellsFrom, namedAt}
+use Rattle.answering.specs.Choosing.{cellsFrom, holdsAt}
 use Rattle.answering.proofs.Rows.{at-row}
 
 -- nodes after nodes, and a node with those under it and those after it
@@ -60,59 +60,59 @@ module _ {b : Board} {t : List ℕ} (x : ℕ) (p : 1 ≤ x) where
         node-named t x i (size (nodesOfWaits ws)) (size (nodesOfMoves ms)) c _ _ (r .row .cell) (waits-named ws below) (moves-named ms rest)
 
   -- the same of one node
-  own-named : {k : Kind} {i c : ℕ} {u : Nodes} → At (EndedOn b t) k i c u → namedAt t i x ≡ (eqb x c || among (cellsFrom t (i + 1) (size u)) x)
-  unfolding namedAt cellsFrom among
-  own-named {k} {i} {c} {u} n =
+  own-held : {k : Kind} {i c : ℕ} {u : Nodes} → At (EndedOn b t) k i c u → holdsAt t i x ≡ (eqb x c || among (cellsFrom t (i + 1) (size u)) x)
+  unfolding holdsAt cellsFrom among
+  own-held {k} {i} {c} {u} n =
       let e : endIn t i - i ≡ suc (size u) = omega (arith, n .here .end) in
       ap (λ (m : ℕ). among (cellsFrom t i m) x) e ∙ ap (λ (y : ℕ). eqb x y || among (cellsFrom t (i + 1) (size u)) x) (n .here .row .cell)
 
-  pub wait-named : {i : ℕ} (ms : Moves) → At (EndedOn b t) aWait i 0 (nodesOfMoves ms) → namedAt t i x ≡ inMoves ms x
-  wait-named ms n = own-named n ∙ ap₂ (λ (y z : Bool). y || z) (no-cell x p) (moves-named ms (n .below))
+  pub wait-held : {i : ℕ} (ms : Moves) → At (EndedOn b t) aWait i 0 (nodesOfMoves ms) → holdsAt t i x ≡ inMoves ms x
+  wait-held ms n = own-held n ∙ ap₂ (λ (y z : Bool). y || z) (no-cell x p) (moves-named ms (n .below))
 
-  pub move-named : {i c : ℕ} (ws : Waits) → At (EndedOn b t) aMove i c (nodesOfWaits ws) → namedAt t i x ≡ inMove c ws x
+  pub move-held : {i c : ℕ} (ws : Waits) → At (EndedOn b t) aMove i c (nodesOfWaits ws) → holdsAt t i x ≡ inMove c ws x
   unfolding inMove
-  move-named {i} {c} ws n = own-named n ∙ ap (λ (y : Bool). eqb x c || y) (waits-named ws (n .below))
+  move-held {i} {c} ws n = own-held n ∙ ap (λ (y : Bool). eqb x c || y) (waits-named ws (n .below))
 
 -- the nodes that a cell is looked for at stand in the table
 pub named-room : {b : Board} {t : List ℕ} {k : Kind} {i c : ℕ} {u : Nodes} → At (EndedOn b t) k i c u → (4 * i + 3 < length t) × (4 * endIn t i ≤ length t)
 named-room n = (n .here .row .room, omega (arith, n .here .end, node-end (at-row n)))
 
 -- the search: x is named at node i or under it exactly if it is at one of the nodes left, which are from j up to the end
-pub record Naming (t : List ℕ) (i x end j : ℕ) : Type 0 where
+pub record Holding (t : List ℕ) (i x end j : ℕ) : Type 0 where
   pub end-is : end ≡ endIn t i
-  pub same : namedAt t i x ≡ among (cellsFrom t j (end - j)) x
+  pub same : holdsAt t i x ≡ among (cellsFrom t j (end - j)) x
 
-pub naming-starts : {t : List ℕ} {i x end : ℕ} → end ≡ endIn t i → Naming t i x end i
-unfolding namedAt
-naming-starts {t} {i} {x} e = record { end-is = e; same = ap (λ (n : ℕ). among (cellsFrom t i (n - i)) x) (sym e) }
+pub holding-starts : {t : List ℕ} {i x end : ℕ} → end ≡ endIn t i → Holding t i x end i
+unfolding holdsAt
+holding-starts {t} {i} {x} e = record { end-is = e; same = ap (λ (n : ℕ). among (cellsFrom t i (n - i)) x) (sym e) }
 
-module _ {t : List ℕ} {i x end j : ℕ} (l : Naming t i x end j) where
-  pub naming-room : j < end → 4 * endIn t i ≤ length t → 4 * j + 3 < length t
-  naming-room p h = omega (arith, l .end-is)
+module _ {t : List ℕ} {i x end j : ℕ} (l : Holding t i x end j) where
+  pub holding-room : j < end → 4 * endIn t i ≤ length t → 4 * j + 3 < length t
+  holding-room p h = omega (arith, l .end-is)
 
   -- whether x is the cell of node j, and then whether it is at one of those left after it
-  next-named : (y : Bool) → j < end → eqb x (cellIn t j) ≡ y → namedAt t i x ≡ (y || among (cellsFrom t (j + 1) (end - (j + 1))) x)
+  next-held : (y : Bool) → j < end → eqb x (cellIn t j) ≡ y → holdsAt t i x ≡ (y || among (cellsFrom t (j + 1) (end - (j + 1))) x)
   unfolding cellsFrom among
-  next-named y p e =
+  next-held y p e =
       let f : end - j ≡ suc (end - (j + 1)) = omega arith in
       l .same
       ∙ ap (λ (n : ℕ). among (cellsFrom t j n) x) f
       ∙ ap (λ (z : Bool). z || among (cellsFrom t (j + 1) (end - (j + 1))) x) e
 
-  pub naming-found : j < end → cellIn t j ≡ x → true ≡ namedAt t i x
-  naming-found p e = sym (next-named true p (true-of (eqb x (cellIn t j)) (rw e (eqb-refl x))))
+  pub holding-found : j < end → cellIn t j ≡ x → true ≡ holdsAt t i x
+  holding-found p e = sym (next-held true p (true-of (eqb x (cellIn t j)) (rw e (eqb-refl x))))
 
-  pub naming-again : (next : ℕ) → j < end → (cellIn t j ≡ x → ⊥) → next ≡ j + 1 → Naming t i x end next
-  naming-again next p n e =
+  pub holding-again : (next : ℕ) → j < end → (cellIn t j ≡ x → ⊥) → next ≡ j + 1 → Holding t i x end next
+  holding-again next p n e =
       rw e
       (record {
         end-is = l .end-is;
-        same = next-named false p (false-of (eqb x (cellIn t j)) (λ h. n (sym (eqb→eq x (cellIn t j) h))));
+        same = next-held false p (false-of (eqb x (cellIn t j)) (λ h. n (sym (eqb→eq x (cellIn t j) h))));
       })
 
   -- no node is left
-  pub naming-done : end ≤ j → false ≡ namedAt t i x
+  pub holding-done : end ≤ j → false ≡ holdsAt t i x
   unfolding cellsFrom among
-  naming-done p =
+  holding-done p =
       let e : end - j ≡ 0 = omega arith in
       sym (l .same ∙ ap (λ (n : ℕ). among (cellsFrom t j n) x) e)
