@@ -92,6 +92,11 @@ traps =
     ∷ row "under the open wait with the smallest line, then under the touched one" (playing twoWaits (6 ∷ 4 ∷ [])) (0 ∷ 0 ∷ 1 ∷ 1 ∷ 5 ∷ [])
     ∷ row "an answered wait is closed: its other cells are free moves" (playing twoWaits (6 ∷ 3 ∷ [])) (0 ∷ 0 ∷ 1 ∷ 1 ∷ 4 ∷ [])
     ∷ row "the touched wait is answered" (playing P8 (4 ∷ 6 ∷ [])) (0 ∷ 0 ∷ 0 ∷ 5 ∷ 1 ∷ [])
+    ∷ row "3: the empty text" (judging "") (3 ∷ 1 ∷ 0 ∷ 0 ∷ 0 ∷ 0 ∷ 0 ∷ [])
+    ∷ row "4: a wait where the first node is due" (judging "hex 2 2 D/w 1/") (4 ∷ 2 ∷ 0 ∷ 0 ∷ 0 ∷ 0 ∷ 0 ∷ [])
+    ∷ row "5: a cell off the board" (judging "hex 2 2 D/m c1 0/") (5 ∷ 2 ∷ 0 ∷ 0 ∷ 0 ∷ 0 ∷ 0 ∷ [])
+    ∷ row "8: a line is missing" (judging "hex 2 2 D/m b1 1/") (8 ∷ 3 ∷ 0 ∷ 0 ∷ 0 ∷ 0 ∷ 0 ∷ [])
+    ∷ row "9: an empty line after the tree" (judging "hex 1 1 D/m a1 0//") (9 ∷ 3 ∷ 0 ∷ 0 ∷ 0 ∷ 0 ∷ 0 ∷ [])
     ∷ row "on a board of one row a single cell joins for D" (judging "hex 3 1 D/m b1 0/") (0 ∷ 0 ∷ 0 ∷ 0 ∷ 1 ∷ 0 ∷ 1 ∷ [])
     ∷ []
 
