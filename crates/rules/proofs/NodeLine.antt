@@ -11,7 +11,7 @@ use native.Mathlib.Omega.{arith}
 use Rattle.rules.specs.Sizes.{mostNodes}
 use Rattle.rules.specs.Text.{Bytes, Reader}
 use Rattle.rules.specs.Lines.{Line}
-use Rattle.rules.specs.Reading.{Result, refused, got, Spot, go, give, within, cellOf, Node, refuseHere, lineHere, nodeHere, here, isNothing, nodeLine}
+use Rattle.rules.specs.Reading.{Result, refused, got, Spot, go, give, within, cellOf, Node, refuseHere, lineHere, nodeHere, thisSpot, isNothing, nodeLine}
 use Rattle.rules.specs.declared.Board.{Board}
 use Rattle.rules.specs.declared.Verdict.the-variants.{BadLine, OffBoard, TooManyNodes, TooDeep, Unfinished}
 use Rattle.rules.proofs.Tests.{true-of, false-of}
@@ -42,7 +42,7 @@ module _ (b : Board) (r : Reader Line) (levels : ℕ) (s : Spot) where
 
   -- what is seen is what the line comes to
   pub seen-is : (q : Result (Node × Spot)) → LineSeen q → nodeLine b r levels s ≡ q
-  unfolding nodeLine here refuseHere lineHere go give
+  unfolding nodeLine thisSpot refuseHere lineHere go give
   seen-is _ (sees-end e) = rw (nothing e)
   seen-is _ (sees-many h e) = rw (something (s .text) h, eq-eqb (s .nodes) mostNodes e)
   seen-is _ (sees-bad h e) = rw (something (s .text) (h .some-text), ne-eqb (s .nodes) mostNodes (h .not-full), e)

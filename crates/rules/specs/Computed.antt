@@ -10,7 +10,7 @@ use Rattle.rules.specs.Joining.{touches, grow, reachedIn, joined}
 use Rattle.rules.specs.Text.{bind, give, guard, _orElse_, anyByte, byte, word, tab, lineFeed, isDigit, digits, afterDigits, spelled, wellSpelled, number, numberIn}
 use Rattle.rules.specs.Lines.{player, headerLine, letter, place, moveLine, dashLine, waitLine}
 use Rattle.rules.specs.Tree.{asWaits, asMoves, stone, everyMove, everyWait, moveCount, waitCount, movesOfWaits, movesOfMoves, waitsOfWaits, waitsOfMoves}
-use Rattle.rules.specs.Reading.{go, give as give·Reading, within, cellOf, refuseHere, lineHere, nodeHere, here, isNothing, nodeLine, inTurn, ended, readBody, headed, readSheet, readMove, readWait, got}
+use Rattle.rules.specs.Reading.{go, give as give·Reading, within, cellOf, refuseHere, lineHere, nodeHere, thisSpot, isNothing, nodeLine, inTurn, ended, readBody, headed, readSheet, readMove, readWait, got}
 use Rattle.rules.specs.Fair.{inMove, holding, inEvery, notApart, notElusive, faultAt, firstFault, firstNotApart, firstNotElusive, inWaits, inMoves}
 use Rattle.rules.specs.Outcomes.{eachWithEach, outcomes, outcomeCount, outcomesOfWaits, outcomesOfMoves, countOfWaits, countOfMoves}
 use Rattle.rules.specs.Choice.{the-first, one-later}
@@ -24,7 +24,7 @@ abbrev Opens : Type 0
 Opens = T (not (isOver p1 (start p1))) × T (isEmpty p1 (start p1) 3) × T (allowed 3 (p1 .root .waits) (the-first (one-later (the-first tt))))
 
 computed : (replies table ≡ expected table) × (replies traps ≡ expected traps) × (accepted leastWorkspace (sheet P1) ≡ got p1) × Opens × (readSheet (sheet P3) ≡ got p3)
-unfolding among keep any upTo firstOrNone oneIf onBoard cellAt cells isCell columnOf rowOf there around neighbours onFirstSide onLastSide listed smallest touches grow reachedIn joined bind give guard _orElse_ anyByte byte word tab lineFeed isDigit digits afterDigits spelled wellSpelled number numberIn player headerLine letter place moveLine dashLine waitLine asWaits asMoves stone everyMove everyWait moveCount waitCount movesOfWaits movesOfMoves waitsOfWaits waitsOfMoves go give·Reading within cellOf refuseHere lineHere nodeHere here isNothing nodeLine inTurn ended readBody headed readSheet readMove readWait inMove holding inEvery notApart notElusive faultAt firstFault firstNotApart firstNotElusive inWaits inMoves eachWithEach outcomes outcomeCount outcomesOfWaits outcomesOfMoves countOfWaits countOfMoves allowed smallestLine firstLine touchedAnswer freeAnswer answer start mine isOver isTaken isEmpty next answeredBy answered _>>=_ refuseIf refuseFault refuseUnjoined read readText fair satisfying accepted counts judged judge step rounds refusedPlay playedOut playOn play outcomeCells named outcome workspaceAfter roomAfter playShown outcomeShown byteOf sheet toldOf reply table traps replies expected
+unfolding among keep any upTo firstOrNone oneIf onBoard cellAt cells isCell columnOf rowOf there around neighbours onFirstSide onLastSide listed smallest touches grow reachedIn joined bind give guard _orElse_ anyByte byte word tab lineFeed isDigit digits afterDigits spelled wellSpelled number numberIn player headerLine letter place moveLine dashLine waitLine asWaits asMoves stone everyMove everyWait moveCount waitCount movesOfWaits movesOfMoves waitsOfWaits waitsOfMoves go give·Reading within cellOf refuseHere lineHere nodeHere thisSpot isNothing nodeLine inTurn ended readBody headed readSheet readMove readWait inMove holding inEvery notApart notElusive faultAt firstFault firstNotApart firstNotElusive inWaits inMoves eachWithEach outcomes outcomeCount outcomesOfWaits outcomesOfMoves countOfWaits countOfMoves allowed smallestLine firstLine touchedAnswer freeAnswer answer start mine isOver isTaken isEmpty next answeredBy answered _>>=_ refuseIf refuseFault refuseUnjoined read readText fair satisfying accepted counts judged judge step rounds refusedPlay playedOut playOn play outcomeCells named outcome workspaceAfter roomAfter playShown outcomeShown byteOf sheet toldOf reply table traps replies expected
 computed = (refl, refl, refl, (tt, tt, tt), refl)
 
 pub samples : replies table ≡ expected table

@@ -73,26 +73,26 @@ nodeHere b x s =
       record { text = x .1; line = s .line + 1; nodes = s .nodes + 1 },
     )
 
-unfoldable pub here : Reading Spot
-here s = give s s
+unfoldable pub thisSpot : Reading Spot
+thisSpot s = give s s
 
 unfoldable pub isNothing : Bytes → Bool
 isNothing [] = true
 isNothing (_ ∷ _) = false
 
--- The next node's line, which r reads, where so many levels are left. Refused in the order
---   8: the text ends and the tree is unfinished
---   6: a 2,049th node line begins while the tree is unfinished
---   4: a node line malformed, of the wrong kind, or without its line feed
---   7: a node at depth 129
---   5: a cell off the board
+-- The next node's line, which r reads, where so many levels are left: refused in this order, or its node
 unfoldable pub nodeLine : Board → Reader Line → (levels : ℕ) → Reading Node
 nodeLine b r levels = do
-  s ← here
+  s ← thisSpot
+  -- 8: the text ends and the tree is unfinished
   _ ← refuseHere (isNothing (s .text)) Unfinished
+  -- 6: a 2,049th node line begins while the tree is unfinished
   _ ← refuseHere (eqb (s .nodes) mostNodes) TooManyNodes
+  -- 4: a node line malformed, of the wrong kind, or without its line feed
   x ← lineHere (r (s .text)) BadLine
+  -- 7: a node at depth 129
   _ ← refuseHere (eqb levels 0) TooDeep
+  -- 5: a cell off the board
   _ ← refuseHere (not (within b (x .0 .place))) OffBoard
   nodeHere b x
 
