@@ -2,46 +2,25 @@
 use mathlib.Core.Path.{_≡_, ap, subst⁻¹, _∙_}
 use Prim.Native.Nat.{ℕ, _+_, _-_, _<_, _≤_}
 use mathlib.Core.List.{List, [], _∷_, _++_}
-use native.Mathlib.Numerals.{add-one}
 use native.Mathlib.Omega.{arith}
-use lib.ListN.{length, getD, take, drop, length-append, length-take, length-drop}
-use lib.Seq.{append-snoc, take-all, take-suc, take-add, take-at}
+use lib.ListN.{length, take, drop, length-append, length-take, length-drop}
+use lib.Seq.{take-all, take-add, take-at}
 use Rattle.rules.specs.Text.{Bytes}
 use Rattle.report.specs.Writing.{Wrote}
 use Rattle.report.proofs.Writing.{wrote-length}
+use Rattle.requests.specs.Sent.{sent, WholeIn}
+use Rattle.requests.specs.declared.Request.{Request}
+use Rattle.requests.proofs.Finding.{sent-in, sent-bytes}
 use Rattle.replies.specs.Reply.{replyOf}
-use Rattle.replies.specs.Found.{sent, WholeIn}
 use Rattle.replies.specs.Answers.{replied, Answers, none, more, AnsweredTo, EndsWith, gatheredAs, GatheredFrom}
-use Rattle.replies.specs.declared.requests.Request.{Request}
 use Rattle.replies.specs.declared.Ending.{Ending}
 use Rattle.replies.specs.declared.Gathered.{Gathered}
 
--- the bytes of a request whose text begins at a place, behind the line feed of its line
-request-bytes : (bytes : Bytes) (end text n : ℕ) → text ≡ end + 1 → getD bytes end 0 ≡ 10 → text + n ≤ length bytes
-    → take (text + n) bytes ≡ take end bytes ++ 10 ∷ take (text + n - text) (drop text bytes)
-request-bytes bytes end text n after feed fits =
-    let size : text + n - text ≡ n = omega arith in
-    let line : take text bytes ≡ take end bytes ++ 10 ∷ [] = rw (after, add-one, take-suc bytes end 0 (omega arith), feed) in
-    take-add text n bytes ∙ rw (size, line) (append-snoc (take end bytes) 10 (take n (drop text bytes)))
-
--- it was answered
+-- a request that lies whole at the front of the bytes was answered
 pub answered-to : {bytes : Bytes} {numbers : List ℕ} {r : Request} {text : ℕ} {replies : Bytes} {at : ℕ} {replies′ : Bytes} {end : ℕ} → WholeIn bytes numbers r text
     → Wrote (replyOf r (take (r .count) numbers) (take (text + r .bytes - text) (drop text bytes))) replies at replies′ end
     → AnsweredTo bytes replies at replies′ (text + r .bytes) end
-answered-to {bytes} {numbers} {r} {text} w h =
-    record {
-      request = record {
-        line = take (w .end) bytes;
-        numbers = take (r .count) numbers;
-        request = r;
-        text = take (text + r .bytes - text) (drop text bytes);
-        asked = w .line;
-        size = omega (arith, length-take (text + r .bytes - text) (drop text bytes), length-drop text bytes, w .fits);
-      };
-      inside = w .fits;
-      taken = request-bytes bytes (w .end) text (r .bytes) (w .after) (w .first .place .stops (w .first .inside)) (w .fits);
-      wrote = h;
-    }
+answered-to w h = record { request = sent-in w; inside = w .fits; taken = sent-bytes w; wrote = h }
 
 -- what was taken and said so far
 pub record Gathering (bytes replies : Bytes) (taken said : ℕ) : Type 0 where

@@ -7,7 +7,7 @@ use lib.ListN.{length, take, drop, length-append, length-take, length-drop, take
 use lib.Seq.{length-take-le, getD-take, take-append-add, drop-append-le, drop-drop, ext-getD}
 use Rattle.rules.specs.Text.{Bytes}
 use Rattle.sheet.specs.Playing.{Copied}
-use Rattle.replies.specs.Found.{NoneLies, NoneBegins}
+use Rattle.requests.specs.Sent.{NoneLies}
 use Rattle.replies.specs.Answers.{GatheredFrom}
 use Rattle.replies.specs.Window.{Within, bytesOf, Moved, Ready, ReadBehind, ReadOn, TakenFrom, WentOn, Ended, AnsweredNext}
 use Rattle.replies.specs.declared.Window.{Window}
@@ -77,10 +77,6 @@ read-behind {buffer} {w} {buffer₁} {w₁} new last got r fits =
 -- nothing was read
 pub read-none : {buffer : Bytes} {w : Window} → Within buffer w → ReadBehind buffer w buffer w
 read-none {buffer} {w} h = record { within = h; more = []; behind = sym (append-nil (bytesOf buffer w)) }
-
--- where no request begins, none lies whole
-pub none-lies : (bytes : Bytes) → NoneBegins bytes → NoneLies bytes
-none-lies bytes none s rest e = none s [] rest (append-nil bytes ∙ e)
 
 -- the window after requests that were taken from its front
 abbrev pub beyond : Window → ℕ → Window

@@ -14,11 +14,12 @@ use Rattle.rules.specs.declared.Played.{Played}
 use Rattle.rules.specs.declared.Named.{Named}
 use Rattle.report.specs.Line.{judgeLine}
 use Rattle.report.specs.Writing.{Wrote}
-use Rattle.replies.specs.Request.{Counted, RequestOf}
+use Rattle.requests.specs.Request.{RequestOf}
+use Rattle.requests.proofs.Reading.{count-within, play-counted}
+use Rattle.requests.specs.declared.Ask.{Ask}
+use Rattle.requests.specs.declared.Ask.the-variants as Ask
+use Rattle.requests.specs.declared.Request.{Request}
 use Rattle.replies.specs.Reply.{toldLine, playLine, outcomeLine, replyOf}
-use Rattle.replies.specs.declared.requests.Ask.{Ask}
-use Rattle.replies.specs.declared.requests.Ask.the-variants as Ask
-use Rattle.replies.specs.declared.requests.Request.{Request}
 
 -- the first n numbers are n at most
 pub take-short : (n m : ℕ) (l : List ℕ) → n ≤ m → length (take n l) ≤ m
@@ -61,13 +62,6 @@ module _ (t : Bytes) {replies : Bytes} {at : ℕ} {replies′ : Bytes} {end w w�
 
     pub outcome-as : (number : ℕ) → Wrote (outcomeLine w t number room) replies at replies′ end → Wrote (outcomeLine w′ t number room′) replies at replies′ end
     outcome-as number h = rw (← e, ← f) h
-
--- a request's numbers are among those that were read, and a play's are three at least
-pub count-within : (numbers : List ℕ) {r : Request} → RequestOf (take (r .count) numbers) r → r .count ≤ length numbers
-count-within numbers {r} h = omega (arith, h .size, length-take (r .count) numbers)
-
-pub play-counted : {ask : Ask} (n : ℕ) → Counted ask n → ask ≡ Ask.Play → 3 ≤ n
-play-counted n h e = rw e at h
 
 -- the numbers from place i up to place n
 pub later-numbers : (i n : ℕ) (l : List ℕ) → i ≤ n → n ≤ length l → drop i (take n l) ≡ take (n - i) (drop i l)

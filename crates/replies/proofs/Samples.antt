@@ -1,26 +1,21 @@
--- The definitions of a request's line and of its reply on samples, one of each kind, with no workspace. (In a sample `/` is a line feed,
--- a blank a tab.)
+-- The definition of the reply to a request on samples, one of each kind, with no workspace. (In a sample `/` is a line feed, a blank a
+-- tab.)
 use mathlib.Core.Path.{_≡_, refl}
 use Prim.Native.Nat.{ℕ}
-use mathlib.Core.List.{[], _∷_, _++_}
+use mathlib.Core.List.{[], _∷_}
 use Rattle.rules.specs.Words.{oneIf}
 use Rattle.rules.specs.Entries.{_>>=_, refuseIf, readText, read, accepted, judged, judge, refusedPlay, playOn, play, named, outcome}
 use Rattle.rules.specs.Samples.{byteOf, sheet}
 use Rattle.rules.specs.Decimal.{leading, decimal}
 use Rattle.report.specs.Line.{fields, lineOf, reportLine, judgeLine}
-use Rattle.replies.specs.Request.{nameOf}
+use Rattle.requests.specs.declared.Ask.{Ask}
+use Rattle.requests.specs.declared.Ask.the-variants as Ask
+use Rattle.requests.specs.declared.Request.{Request}
 use Rattle.replies.specs.Reply.{playLine, outcomeLine, replyOf}
-use Rattle.replies.specs.declared.requests.Ask.{Ask}
-use Rattle.replies.specs.declared.requests.Ask.the-variants as Ask
-use Rattle.replies.specs.declared.requests.Request.{Request}
 
 -- a request without memory or text, by what it asks and its numbers
 asking : Ask → (count room : ℕ) → Request
 asking ask count room = record { ask = ask; work = 0; bytes = 0; room = room; count = count }
-
-lines : (nameOf Ask.Judge ++ fields (0 ∷ 0 ∷ []) ≡ sheet "judge 0 0") × (nameOf Ask.Play ++ fields (0 ∷ 0 ∷ 2 ∷ 10 ∷ []) ≡ sheet "play 0 0 2 10") × (nameOf Ask.Outcome ++ fields (0 ∷ 0 ∷ 0 ∷ 7 ∷ []) ≡ sheet "outcome 0 0 0 7")
-unfolding leading decimal fields byteOf sheet
-lines = (refl, refl, refl)
 
 replies : (replyOf (asking Ask.Judge 2 0) (0 ∷ 0 ∷ []) [] ≡ sheet "1 0 0 0 0 0 0/") × (replyOf (asking Ask.Play 4 2) (0 ∷ 0 ∷ 2 ∷ 10 ∷ []) [] ≡ sheet "1 0 0 0 0 0 0/") × (replyOf (asking Ask.Outcome 4 0) (0 ∷ 0 ∷ 0 ∷ 7 ∷ []) [] ≡ sheet "1 0 0 0 0/")
 unfolding oneIf _>>=_ refuseIf read readText accepted judged judge refusedPlay playOn play named outcome byteOf sheet leading decimal fields lineOf reportLine judgeLine playLine outcomeLine replyOf asking

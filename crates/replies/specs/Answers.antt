@@ -5,7 +5,7 @@ use mathlib.Core.List.{[], _++_}
 use lib.ListN.{length, take, drop}
 use Rattle.rules.specs.Text.{Bytes}
 use Rattle.report.specs.Writing.{Wrote}
-use Rattle.replies.specs.Found.{Sent, sent, PartialIn, MalformedIn}
+use Rattle.requests.specs.Sent.{Sent, sent, PartialIn, MalformedIn}
 use Rattle.replies.specs.Reply.{replyOf}
 use Rattle.replies.specs.declared.Answer.{Answer}
 use Rattle.replies.specs.declared.Answer.the-variants as Answer

@@ -1,6 +1,4 @@
 -- What the contracts of the program cite.
-pub mod Request
-pub mod Found
 pub mod Reply
 pub mod Answers
 pub mod Window

@@ -8,8 +8,8 @@ use Rattle.rules.specs.Verdict.{told}
 use Rattle.rules.specs.Entries.{PlayReply, play, OutcomeReply, outcome}
 use Rattle.rules.specs.declared.Told.{Told}
 use Rattle.report.specs.Line.{lineOf, judgeLine}
-use Rattle.replies.specs.declared.requests.Ask.the-variants as Ask
-use Rattle.replies.specs.declared.requests.Request.{Request}
+use Rattle.requests.specs.declared.Ask.the-variants as Ask
+use Rattle.requests.specs.declared.Request.{Request}
 
 -- verdict, line, cell, index, and further numbers
 abbrev pub toldLine : Told → List ℕ → Bytes

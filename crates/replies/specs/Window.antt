@@ -4,7 +4,7 @@ use Prim.Native.Nat.{_-_, _<_, _≤_}
 use mathlib.Core.List.{_++_}
 use lib.ListN.{length, take, drop}
 use Rattle.rules.specs.Text.{Bytes}
-use Rattle.replies.specs.Found.{NoneLies}
+use Rattle.requests.specs.Sent.{NoneLies}
 use Rattle.replies.specs.Answers.{Answers}
 use Rattle.replies.specs.declared.Window.{Window}
 use Rattle.replies.specs.declared.Answered.{Answered}

@@ -1,16 +1,15 @@
-// replies: the program. It answers requests about sheets from standard input, one line for each, until the input ends. `requests` finds
-// them in what was read, `lent` looks after the memory that is lent; here are the replies, the taking of the input and the printing. It sees
-// sheet and report.
+// replies: the program. It answers requests about sheets from standard input, one line for each, until the input ends. The crate `requests`
+// finds them in what was read, `lent` looks after the memory that is lent; here are the replies, the taking of the input and the printing. It
+// sees sheet, report and requests.
 mod lent;
-mod requests;
 
 ghost use mathlib.Core.Path.{_≡_};
 ghost use Prim.Native.Nat.{_+_, _<_, _≤_};
 ghost use lib.ListN.{length, take};
 ghost use Rattle.report.specs.Line.{judgeLine};
 ghost use Rattle.report.specs.Writing.{Wrote};
-ghost use Rattle.replies.specs.Request.{RequestOf};
-ghost use Rattle.replies.specs.Found.{WholeIn};
+ghost use Rattle.requests.specs.Request.{RequestOf};
+ghost use Rattle.requests.specs.Sent.{WholeIn};
 ghost use Rattle.replies.specs.Reply.{playLine, outcomeLine, replyOf};
 ghost use Rattle.replies.specs.Answers.{Replies, AnswerOf, gatheredAs, GatheredFrom};
 ghost use Rattle.replies.specs.Window.{Within, Moved, Ready, ReadOn, AnsweredNext};
@@ -25,8 +24,8 @@ use report::report;
 use report::tell;
 use report::write_line;
 use requests::Ask;
-use requests::Found;
 use requests::Request;
+use requests::RequestFound;
 use requests::find;
 use sheet::judge;
 use sheet::outcome;
@@ -268,9 +267,9 @@ fn answer_first(
 {
     let found = find(bytes, numbers);
     match found {
-        Found::Partial => Answer::Partial,
-        Found::Malformed => Answer::Malformed,
-        Found::Whole { request, text } => answer_whole(
+        RequestFound::Partial => Answer::Partial,
+        RequestFound::Malformed => Answer::Malformed,
+        RequestFound::Whole { request, text } => answer_whole(
             bytes,
             text,
             request,

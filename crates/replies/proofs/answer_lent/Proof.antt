@@ -4,7 +4,8 @@ use native.Mathlib.Omega.{arith}
 use lib.Seq.{length-take-le}
 use denote.Ref.{now}
 use borrow.Author.Needs.{needs}
-use Rattle.replies.proofs.Replying.{take-short, count-within, play-counted, replied-judge, replied-play, replied-outcome}
+use Rattle.requests.proofs.Reading.{count-within, play-counted}
+use Rattle.replies.proofs.Replying.{take-short, replied-judge, replied-play, replied-outcome}
 use Rattle.replies.proofs.answer_lent.Statement.{statement}
 use Rattle.replies.proofs.answer_lent.Tie as tie
 

@@ -1,7 +1,7 @@
 -- `replies::answer_next` meets its contract: what is left of the window goes on, with what was read behind it.
 use borrow.Author.Needs.{needs}
-use Rattle.replies.proofs.Finding.{partial-none, partial-short, malformed-begins}
-use Rattle.replies.proofs.Moving.{beyond-within, beyond-short, none-lies, read-none, went-on, ended, read-went-on}
+use Rattle.requests.proofs.Finding.{partial-none, partial-short, malformed-none}
+use Rattle.replies.proofs.Moving.{beyond-within, beyond-short, read-none, went-on, ended, read-went-on}
 use Rattle.replies.proofs.answer_next.Statement.{statement}
 use Rattle.replies.proofs.answer_next.Tie as tie
 
@@ -84,7 +84,7 @@ returns-2 : tie.Need-returns-2
 returns-2 c =
     let gathered = c .before .before .before .before .before .before .before .before .before .before .before .before .before .before .gather .ensures in
     let left = gathered .left in
-    ended (c .before .before .before .before .before .before .before .before .before .before .before .before .before .before .before .before .before .before .before .before .before .before .before .before .before .before .pre .0 .0) gathered (none-lies _ (malformed-begins (rw (c .before .enum-told2 .given .1) at left)))
+    ended (c .before .before .before .before .before .before .before .before .before .before .before .before .before .before .before .before .before .before .before .before .before .before .before .before .before .before .pre .0 .0) gathered (malformed-none (rw (c .before .enum-told2 .given .1) at left))
 
 same-length-11 : tie.Need-same-length-11
 same-length-11 c = search needs
