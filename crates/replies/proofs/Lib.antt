@@ -1,6 +1,6 @@
 -- The laws that belong to no one function.
 pub mod Replying
-pub mod Answers
+pub mod Gathering
 pub mod Moving
 pub mod Laid
 pub mod Samples

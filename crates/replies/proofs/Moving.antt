@@ -9,11 +9,11 @@ use Rattle.rules.specs.Text.{Bytes}
 use Rattle.sheet.specs.Playing.{Copied}
 use Rattle.requests.specs.Sent.{NoneLies}
 use Rattle.replies.specs.Answers.{GatheredFrom}
-use Rattle.replies.specs.Window.{Within, bytesOf, Moved, Ready, ReadBehind, ReadOn, TakenFrom, WentOn, Ended, AnsweredNext}
-use Rattle.replies.specs.declared.Window.{Window}
-use Rattle.replies.specs.declared.Gathered.{Gathered}
-use Rattle.replies.specs.declared.Answered.{Answered}
-use Rattle.replies.specs.declared.Answered.the-variants as Answered
+use Rattle.replies.specs.Window.{Within, bytesOf, Moved, PlaceBehind, ReadBehind, ReadOn, TakenFrom, WentOn, RequestsEnd, AnsweredNext}
+use Rattle.replies.specs.declared.window.Window.{Window}
+use Rattle.replies.specs.declared.answers.Gathered.{Gathered}
+use Rattle.replies.specs.declared.window.NextWindow.{NextWindow}
+use Rattle.replies.specs.declared.window.NextWindow.the-variants as NextWindow
 use Rattle.replies.proofs.Replying.{later-numbers}
 
 -- a window has as many bytes as it is long
@@ -38,8 +38,8 @@ moved-front {buffer} {w} {buffer′} h k =
     }
 
 -- an empty window is put to the front
-pub ready-empty : {buffer : Bytes} {w : Window} → w .start ≡ w .end → 0 < length buffer → Ready buffer w buffer (record { start = 0; end = 0 })
-ready-empty {buffer} {w} e p =
+pub place-empty : {buffer : Bytes} {w : Window} → w .start ≡ w .end → 0 < length buffer → PlaceBehind buffer w buffer (record { start = 0; end = 0 })
+place-empty {buffer} {w} e p =
     let none : w .end - w .start ≡ 0 = omega arith in
     record {
       moved = record { within = record { on = omega arith; inside = omega arith }; same = sym (ap (λ (n : ℕ). take n (drop (w .start) buffer)) none) };
@@ -47,13 +47,13 @@ ready-empty {buffer} {w} e p =
     }
 
 -- a window at the front that is shorter than the buffer
-pub ready-front : {buffer : Bytes} {w : Window} {buffer′ : Bytes} {w′ : Window} → Within buffer w → w .end < w .start + length buffer → length buffer′ ≡ length buffer
-    → Moved buffer w buffer′ w′ → w′ .start ≡ 0 → Ready buffer w buffer′ w′
-ready-front {buffer} {w} {buffer′} {w′} h short long m e =
+pub place-front : {buffer : Bytes} {w : Window} {buffer′ : Bytes} {w′ : Window} → Within buffer w → w .end < w .start + length buffer → length buffer′ ≡ length buffer
+    → Moved buffer w buffer′ w′ → w′ .start ≡ 0 → PlaceBehind buffer w buffer′ w′
+place-front {buffer} {w} {buffer′} {w′} h short long m e =
     record { moved = m; place = omega (arith, bytes-long buffer w h, bytes-long buffer′ w′ (m .within), ap length (m .same), h .on) }
 
 -- bytes were read behind the window
-pub read-behind : {buffer : Bytes} {w : Window} {buffer₁ : Bytes} {w₁ : Window} (new last : Bytes) (got : ℕ) → Ready buffer w buffer₁ w₁ → got ≤ length new
+pub read-behind : {buffer : Bytes} {w : Window} {buffer₁ : Bytes} {w₁ : Window} (new last : Bytes) (got : ℕ) → PlaceBehind buffer w buffer₁ w₁ → got ≤ length new
     → ReadBehind buffer w (take (w₁ .end) buffer₁ ++ (new ++ last)) (record { start = w₁ .start; end = w₁ .end + got })
 read-behind {buffer} {w} {buffer₁} {w₁} new last got r fits =
     let news = new ++ last in
@@ -115,9 +115,9 @@ module _ {buffer : Bytes} {w : Window} {replies : Bytes} {g : Gathered} (h : Wit
         after = r .behind ∙ ap (λ (t : Bytes). t ++ r .more) beyond-bytes;
       }
 
-  pub ended : NoneLies (drop (g .taken) (bytesOf buffer w)) → Ended buffer w
+  pub ended : NoneLies (drop (g .taken) (bytesOf buffer w)) → RequestsEnd buffer w
   ended none = record { left = drop (g .taken) (bytesOf buffer w); taken = taken-from; none = none }
 
-  pub read-went-on : (buffer′ : Bytes) (a : Answered) → NoneLies (drop (g .taken) (bytesOf buffer w)) → ReadOn buffer (beyond w (g .taken)) buffer′ a → AnsweredNext buffer w buffer′ a
-  read-went-on buffer′ (Answered.On w′) none r = went-on r
-  read-went-on buffer′ Answered.Last none r = ended none
+  pub read-went-on : (buffer′ : Bytes) (a : NextWindow) → NoneLies (drop (g .taken) (bytesOf buffer w)) → ReadOn buffer (beyond w (g .taken)) buffer′ a → AnsweredNext buffer w buffer′ a
+  read-went-on buffer′ (NextWindow.On w′) none r = went-on r
+  read-went-on buffer′ NextWindow.Last none r = ended none

@@ -6,7 +6,7 @@ use lib.ListN.{length, length-append}
 use Rattle.rules.specs.Text.{Bytes}
 use Rattle.requests.specs.Sent.{Sent, sent}
 use Rattle.requests.proofs.OneRequest.{sent-one}
-use Rattle.replies.specs.Answers.{replied, Answers, none, more}
+use Rattle.replies.specs.Answers.{replied, RepliesTo, none, more}
 
 -- requests and their replies, from the first on
 data Lined : Bytes → Bytes → Type 0 where
@@ -20,7 +20,7 @@ lined-more (first {asked} {said} z l) s =
     subst⁻¹ (λ (t : Bytes). Lined t ((replied z ++ said) ++ replied s)) (append-assoc (sent z) asked (sent s))
     (subst⁻¹ (Lined (sent z ++ (asked ++ sent s))) (append-assoc (replied z) said (replied s)) (first z (lined-more l s)))
 
-lined : {asked said : Bytes} → Answers asked said → Lined asked said
+lined : {asked said : Bytes} → RepliesTo asked said → Lined asked said
 lined none = end
 lined (more a s) = lined-more (lined a) s
 
@@ -35,5 +35,5 @@ lined-one (first {said = said} s l) (first {said = said′} z m) e =
     rw (same .numbers-same, same .request-same, same .text-same, rest)
 
 -- the same requests have the same replies
-pub one-answer : {asked said said′ : Bytes} → Answers asked said → Answers asked said′ → said ≡ said′
+pub one-answer : {asked said said′ : Bytes} → RepliesTo asked said → RepliesTo asked said′ → said ≡ said′
 one-answer a b = lined-one (lined a) (lined b) refl

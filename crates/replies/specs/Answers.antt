@@ -7,25 +7,25 @@ use Rattle.rules.specs.Text.{Bytes}
 use Rattle.report.specs.Writing.{Wrote}
 use Rattle.requests.specs.Sent.{Sent, sent, PartialIn, MalformedIn}
 use Rattle.replies.specs.Reply.{replyOf}
-use Rattle.replies.specs.declared.Answer.{Answer}
-use Rattle.replies.specs.declared.Answer.the-variants as Answer
-use Rattle.replies.specs.declared.Ending.{Ending}
-use Rattle.replies.specs.declared.Ending.the-variants as Ending
-use Rattle.replies.specs.declared.Gathered.{Gathered}
+use Rattle.replies.specs.declared.answers.FirstReply.{FirstReply}
+use Rattle.replies.specs.declared.answers.FirstReply.the-variants as FirstReply
+use Rattle.replies.specs.declared.answers.Ending.{Ending}
+use Rattle.replies.specs.declared.answers.Ending.the-variants as Ending
+use Rattle.replies.specs.declared.answers.Gathered.{Gathered}
 
 -- the reply to a request
 abbrev pub replied : Sent → Bytes
 replied s = replyOf (s .request) (s .numbers) (s .text)
 
 -- the first bytes are requests, one after another, and the second their replies
-pub data Answers : Bytes → Bytes → Type 0 where
-  none : Answers [] []
-  more : {asked said : Bytes} → Answers asked said → (s : Sent) → Answers (asked ++ sent s) (said ++ replied s)
+pub data RepliesTo : Bytes → Bytes → Type 0 where
+  none : RepliesTo [] []
+  more : {asked said : Bytes} → RepliesTo asked said → (s : Sent) → RepliesTo (asked ++ sent s) (said ++ replied s)
 
 -- bytes that are the replies to some requests
 pub record Replies (said : Bytes) : Type 0 where
   pub asked : Bytes
-  pub answers : Answers asked said
+  pub answers : RepliesTo asked said
 
 -- a request was taken from the front of the bytes, and its reply was written
 pub record AnsweredTo (bytes replies : Bytes) (at : ℕ) (replies′ : Bytes) (next end : ℕ) : Type 0 where
@@ -35,10 +35,10 @@ pub record AnsweredTo (bytes replies : Bytes) (at : ℕ) (replies′ : Bytes) (n
   pub wrote : Wrote (replied request) replies at replies′ end
 
 -- otherwise the replies are as they were
-abbrev pub AnswerOf : (bytes replies : Bytes) (at : ℕ) (replies′ : Bytes) → Answer → Type 0
-AnswerOf bytes replies at replies′ (Answer.Got next end) = AnsweredTo bytes replies at replies′ next end
-AnswerOf bytes replies at replies′ Answer.Partial = (replies′ ≡ replies) × PartialIn bytes
-AnswerOf bytes replies at replies′ Answer.Malformed = (replies′ ≡ replies) × MalformedIn bytes
+abbrev pub AnswerOf : (bytes replies : Bytes) (at : ℕ) (replies′ : Bytes) → FirstReply → Type 0
+AnswerOf bytes replies at replies′ (FirstReply.Got next end) = AnsweredTo bytes replies at replies′ next end
+AnswerOf bytes replies at replies′ FirstReply.Partial = (replies′ ≡ replies) × PartialIn bytes
+AnswerOf bytes replies at replies′ FirstReply.Malformed = (replies′ ≡ replies) × MalformedIn bytes
 
 -- what is left of the bytes where no further request was answered
 abbrev pub EndsWith : Bytes → Ending → Type 0
@@ -53,5 +53,5 @@ gatheredAs taken said ending = record { taken = taken; said = said; ending = end
 pub record GatheredFrom (bytes replies : Bytes) (g : Gathered) : Type 0 where
   pub taken-inside : g .taken ≤ length bytes
   pub said-inside : g .said ≤ length replies
-  pub answers : Answers (take (g .taken) bytes) (take (g .said) replies)
+  pub answers : RepliesTo (take (g .taken) bytes) (take (g .said) replies)
   pub left : EndsWith (drop (g .taken) bytes) (g .ending)

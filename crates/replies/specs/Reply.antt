@@ -16,18 +16,18 @@ abbrev pub toldLine : Told → List ℕ → Bytes
 toldLine t ns = lineOf (t .number) (t .line ∷ t .cell ∷ t .index ∷ ns)
 
 -- play: verdict, line, cell, index, place, answers, over, and the answers
-abbrev played : PlayReply → Bytes
-played r = toldLine (told (r .verdict)) (r .place ∷ length (r .answers) ∷ oneIf (r .over) ∷ r .answers)
+abbrev answersLine : PlayReply → Bytes
+answersLine r = toldLine (told (r .verdict)) (r .place ∷ length (r .answers) ∷ oneIf (r .over) ∷ r .answers)
 
 unfoldable pub playLine : (workspace : ℕ) → Bytes → (moves : List ℕ) → (room : ℕ) → Bytes
-playLine w t xs room = played (play w t xs room)
+playLine w t xs room = answersLine (play w t xs room)
 
 -- outcome: verdict, line, cell, index, count, and the cells
-abbrev named : OutcomeReply → Bytes
-named r = toldLine (told (r .verdict)) (length (r .cells) ∷ r .cells)
+abbrev cellsLine : OutcomeReply → Bytes
+cellsLine r = toldLine (told (r .verdict)) (length (r .cells) ∷ r .cells)
 
 unfoldable pub outcomeLine : (workspace : ℕ) → Bytes → (number room : ℕ) → Bytes
-outcomeLine w t i room = named (outcome w t i room)
+outcomeLine w t i room = cellsLine (outcome w t i room)
 
 -- the reply to a request with the numbers about the sheet's text; judge: verdict, line, cell, index, moves, waits, outcomes
 unfoldable pub replyOf : Request → List ℕ → Bytes → Bytes

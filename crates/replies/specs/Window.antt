@@ -5,10 +5,10 @@ use mathlib.Core.List.{_++_}
 use lib.ListN.{length, take, drop}
 use Rattle.rules.specs.Text.{Bytes}
 use Rattle.requests.specs.Sent.{NoneLies}
-use Rattle.replies.specs.Answers.{Answers}
-use Rattle.replies.specs.declared.Window.{Window}
-use Rattle.replies.specs.declared.Answered.{Answered}
-use Rattle.replies.specs.declared.Answered.the-variants as Answered
+use Rattle.replies.specs.Answers.{RepliesTo}
+use Rattle.replies.specs.declared.window.Window.{Window}
+use Rattle.replies.specs.declared.window.NextWindow.{NextWindow}
+use Rattle.replies.specs.declared.window.NextWindow.the-variants as NextWindow
 
 -- the window lies in the buffer
 pub record Within (buffer : Bytes) (w : Window) : Type 0 where
@@ -24,7 +24,7 @@ pub record Moved (buffer : Bytes) (w : Window) (buffer′ : Bytes) (w′ : Windo
   pub same : bytesOf buffer′ w′ ≡ bytesOf buffer w
 
 -- and the buffer has a place behind it
-pub record Ready (buffer : Bytes) (w : Window) (buffer′ : Bytes) (w′ : Window) : Type 0 where
+pub record PlaceBehind (buffer : Bytes) (w : Window) (buffer′ : Bytes) (w′ : Window) : Type 0 where
   pub moved : Moved buffer w buffer′ w′
   pub place : w′ .end < length buffer′
 
@@ -34,15 +34,15 @@ pub record ReadBehind (buffer : Bytes) (w : Window) (buffer′ : Bytes) (w′ : 
   pub more : Bytes
   pub behind : bytesOf buffer′ w′ ≡ bytesOf buffer w ++ more
 
-abbrev pub ReadOn : (buffer : Bytes) (w : Window) (buffer′ : Bytes) → Answered → Type 0
-ReadOn buffer w buffer′ (Answered.On w′) = ReadBehind buffer w buffer′ w′
-ReadOn buffer w buffer′ Answered.Last = Unit {0}
+abbrev pub ReadOn : (buffer : Bytes) (w : Window) (buffer′ : Bytes) → NextWindow → Type 0
+ReadOn buffer w buffer′ (NextWindow.On w′) = ReadBehind buffer w buffer′ w′
+ReadOn buffer w buffer′ NextWindow.Last = Unit {0}
 
 -- requests were taken from the front of the window
 pub record TakenFrom (buffer : Bytes) (w : Window) (left : Bytes) : Type 0 where
   pub asked : Bytes
   pub said : Bytes
-  pub answers : Answers asked said
+  pub answers : RepliesTo asked said
   pub before : bytesOf buffer w ≡ asked ++ left
 
 -- and more was read behind what is left
@@ -54,11 +54,11 @@ pub record WentOn (buffer : Bytes) (w : Window) (buffer′ : Bytes) (w′ : Wind
   pub after : bytesOf buffer′ w′ ≡ left ++ more
 
 -- or they end, and no request lies whole at the front of what is left
-pub record Ended (buffer : Bytes) (w : Window) : Type 0 where
+pub record RequestsEnd (buffer : Bytes) (w : Window) : Type 0 where
   pub left : Bytes
   pub taken : TakenFrom buffer w left
   pub none : NoneLies left
 
-abbrev pub AnsweredNext : (buffer : Bytes) (w : Window) (buffer′ : Bytes) → Answered → Type 0
-AnsweredNext buffer w buffer′ (Answered.On w′) = WentOn buffer w buffer′ w′
-AnsweredNext buffer w buffer′ Answered.Last = Ended buffer w
+abbrev pub AnsweredNext : (buffer : Bytes) (w : Window) (buffer′ : Bytes) → NextWindow → Type 0
+AnsweredNext buffer w buffer′ (NextWindow.On w′) = WentOn buffer w buffer′ w′
+AnsweredNext buffer w buffer′ NextWindow.Last = RequestsEnd buffer w
