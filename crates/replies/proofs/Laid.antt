@@ -18,7 +18,7 @@ use Rattle.rules.specs.Verdict.{told}
 use Rattle.rules.specs.Entries.{Rounds, stopped, played, rounds, refusedPlay, playedOut, playOn, play, named, outcome, workspaceAfter, roomAfter, playShown, outcomeShown, PlayKept, OutcomeKept}
 use Rattle.rules.specs.declared.Played.{Played}
 use Rattle.rules.specs.declared.Named.{Named}
-use Rattle.sheet.specs.Playing.{Copied}
+use Rattle.loading.specs.Copied.{Copied}
 use Rattle.replies.specs.Lent.{AllAre, FilledFrom, WorkspaceLaid, RoomLaid}
 
 -- memory into which nothing but the filling was copied

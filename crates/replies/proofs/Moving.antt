@@ -6,7 +6,7 @@ use native.Mathlib.Omega.{arith}
 use lib.ListN.{length, take, drop, length-append, length-take, length-drop, take-append-drop}
 use lib.Seq.{length-take-le, getD-take, take-append-add, drop-append-le, drop-drop, ext-getD}
 use Rattle.rules.specs.Text.{Bytes}
-use Rattle.sheet.specs.Playing.{Copied}
+use Rattle.loading.specs.Copied.{Copied}
 use Rattle.requests.specs.Sent.{NoneLies}
 use Rattle.replies.specs.Answers.{GatheredFrom}
 use Rattle.replies.specs.Window.{Within, bytesOf, Moved, PlaceBehind, ReadBehind, ReadOn, TakenFrom, WentOn, RequestsEnd, AnsweredNext}

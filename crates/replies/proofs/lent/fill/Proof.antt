@@ -4,8 +4,8 @@ use Prim.Native.Nat.{_-_}
 use native.Mathlib.Omega.{arith}
 use lib.ListN.{length, replicate, getD-replicate}
 use borrow.Author.Needs.{needs}
-use Rattle.sheet.specs.Playing.{Copied}
-use Rattle.sheet.proofs.Copying.{copied-none, copied-more}
+use Rattle.loading.specs.Copied.{Copied}
+use Rattle.loading.proofs.Copying.{copied-none, copied-more}
 use Rattle.replies.proofs.Laid.{filled-all}
 use Rattle.replies.proofs.lent.fill.Statement.{statement}
 use Rattle.replies.proofs.lent.fill.Tie as tie

@@ -5,8 +5,8 @@ use native.Mathlib.Omega.{arith}
 use lib.ListN.{length, drop}
 use lib.Seq.{getD-drop}
 use borrow.Author.Needs.{needs}
-use Rattle.sheet.specs.Playing.{Copied}
-use Rattle.sheet.proofs.Copying.{copied-none, copied-more}
+use Rattle.loading.specs.Copied.{Copied}
+use Rattle.loading.proofs.Copying.{copied-none, copied-more}
 use Rattle.replies.proofs.Moving.{moved-front}
 use Rattle.replies.proofs.window.to_front.Statement.{statement}
 use Rattle.replies.proofs.window.to_front.Tie as tie
