@@ -1,3 +1,4 @@
 pub mod Counting
 pub mod Fairness
 pub mod Accepting
+pub mod OneReply

@@ -1,19 +1,21 @@
 -- A sheet's text: 2 and 3, its body, and the table that holds what was read and weighed.
 use mathlib.Core.Path.{_≡_, refl, sym, ap, _∙_, subst}
 use mathlib.Core.List.{List}
-use mathlib.Core.Option.{none, some}
+use mathlib.Core.Option.{Option, none, some}
 use Prim.Native.Nat.{ℕ, _-_, _≤_, _<_}
 use native.Mathlib.Omega.{arith}
 use lib.ListN.{length, take, drop, length-take, length-drop}
 use borrow.Author.Tests.{lt-ltb, le-ltb}
-use Rattle.rules.specs.Sizes.{mostBytes, leastWorkspace}
+use Rattle.rules.specs.Sizes.{mostBytes, mostDepth, leastWorkspace}
 use Rattle.rules.specs.Text.{Bytes}
 use Rattle.rules.specs.Lines.{Header, headerLine}
-use Rattle.rules.specs.Reading.{refused, readBody, headed, readSheet}
+use Rattle.rules.specs.Reading.{Result, refused, readBody, headed, readSheet}
+use Rattle.rules.specs.Tree.{Sheet}
 use Rattle.rules.specs.Entries.{_>>=_, refuseIf, readText}
 use Rattle.rules.specs.Unread.{BoardSize}
 use Rattle.rules.specs.declared.Board.{Board}
 use Rattle.rules.specs.declared.Player.{Player}
+use Rattle.rules.specs.declared.LineKind.the-variants.{First}
 use Rattle.rules.specs.declared.Verdict.{Verdict}
 use Rattle.rules.specs.declared.Verdict.the-variants.{LongText, BadHeader}
 use Rattle.rules.proofs.Lists.{part-from}
@@ -25,10 +27,11 @@ use Rattle.nodes.specs.Table.{Row, SomeNode}
 use Rattle.nodes.specs.Weighing.{WeighsAny}
 use Rattle.nodes.proofs.Weighing.{weighs-at, weighs-long}
 use Rattle.lines.specs.Seen.{Reads}
-use Rattle.reading.specs.Kept.{BodyReady, BodyStands, BodyReply, BodyKept}
+use Rattle.reading.specs.Storing.{storeNode}
+use Rattle.reading.specs.Kept.{bodySpot, BodyReady, BodyStands, BodyReply, BodyKept}
 use Rattle.reading.specs.declared.BodyRead.{BodyRead}
 use Rattle.reading.specs.declared.BodyRead.the-variants as BodyRead
-use Rattle.loading.specs.Held.{SheetHeld, SheetReply}
+use Rattle.loading.specs.Held.{SheetHeld, SheetReply, settled, loadedFrom, loaded, SheetKept}
 use Rattle.loading.specs.declared.SheetRead.{SheetRead}
 use Rattle.loading.specs.declared.SheetRead.the-variants as SheetRead
 
@@ -40,18 +43,22 @@ part-within s at = omega (arith, length-take (length s - at) (drop at s), length
 pub header-body : (t : Bytes) (h : Header) (end : ℕ) → Reads t 0 headerLine (some (h, end)) → some (h, take (length t - end) (drop end t)) ≡ headerLine t
 header-body t h end r = ap (λ (z : Bytes). some (h, z)) (part-from t end) ∙ r .same
 
-pub text-long : (t : Bytes) → mostBytes < length t → readText t ≡ refused LongText
-unfolding readText refuseIf _>>=_
-text-long t h = rw (lt-ltb mostBytes (length t) h)
+pub text-long : (t : Bytes) (table : List ℕ) → mostBytes < length t → SheetKept t table (SheetRead.Refused LongText) table
+unfolding readText refuseIf _>>=_ loaded
+text-long t table h = record { reply-is = rw (lt-ltb mostBytes (length t) h); table-is = rw (lt-ltb mostBytes (length t) h) }
 
 module _ (t : Bytes) (short : length t ≤ mostBytes) where
   text-reads : readText t ≡ readSheet t
   unfolding readText refuseIf _>>=_
   text-reads = rw (le-ltb mostBytes (length t) short)
 
-  pub text-headless : none ≡ headerLine t → readText t ≡ refused BadHeader
+  table-loaded : (table : List ℕ) → loaded t table ≡ loadedFrom (headerLine t) table
+  unfolding loaded
+  table-loaded table = rw (le-ltb mostBytes (length t) short)
+
+  pub text-headless : (table : List ℕ) → none ≡ headerLine t → SheetKept t table (SheetRead.Refused BadHeader) table
   unfolding readSheet headed
-  text-headless e = text-reads ∙ rw (sym e)
+  text-headless table e = record { reply-is = text-reads ∙ rw (sym e); table-is = ap (λ (o : Option (Header × Bytes)). loadedFrom o table) e ∙ sym (table-loaded table) }
 
   module _ (b : Board) (p : Player) (body : Bytes) (e : some (record { board = b; player = p }, body) ≡ headerLine t) where
     sheet-body : readSheet t ≡ readBody (record { board = b; player = p }) body
@@ -68,8 +75,18 @@ module _ (t : Bytes) (short : length t ≤ mostBytes) where
     body-ready table within long = record { fits = header-fits; short = omega (arith, within, short); long = long }
 
     module _ (r : BodyRead) (before after : List ℕ) (k : BodyKept b body before r after) where
-      pub text-refused : (v : Verdict) → r ≡ BodyRead.Refused v → readText t ≡ refused v
-      text-refused v q = text-reads ∙ sheet-body ∙ subst (λ (z : BodyRead). BodyReply b p body z after) q (k .reply-is p)
+      -- the table after it
+      settles : (q : Result Sheet) → readBody (record { board = b; player = p }) body ≡ q → settled q after ≡ loaded t before
+      settles q came =
+          ap (settled q) (k .table-is)
+          ∙ ap (λ (z : Result Sheet). settled z (storeNode mostDepth First b (bodySpot body) before .table)) (sym came)
+          ∙ ap (λ (o : Option (Header × Bytes)). loadedFrom o before) e
+          ∙ sym (table-loaded before)
+
+      pub text-refused : (v : Verdict) → r ≡ BodyRead.Refused v → SheetKept t before (SheetRead.Refused v) after
+      text-refused v q =
+          let told = subst (λ (z : BodyRead). BodyReply b p body z after) q (k .reply-is p) in
+          record { reply-is = text-reads ∙ sheet-body ∙ told; table-is = settles (refused v) told }
 
       module _ (q : r ≡ BodyRead.Got) where
         tree : BodyStands b p body after
@@ -78,15 +95,20 @@ module _ (t : Bytes) (short : length t ≤ mostBytes) where
         pub tree-stands : SomeNode (Row after) aMove 0
         tree-stands = record { cell = tree .root .cell; under = nodesOfWaits (tree .root .waits); at = tree .stands }
 
-        pub text-held : (count next : ℕ) (out : List ℕ) → length after ≡ leastWorkspace → WeighsAny aMove after 0 count next out → SheetHeld t out b p
+        pub text-held : (count next : ℕ) (out : List ℕ) → length after ≡ leastWorkspace → WeighsAny aMove after 0 count next out
+            → SheetKept t before (SheetRead.Got b p) out
         text-held count next out long w =
             let weighs = w (tree .root .cell) (nodesOfWaits (tree .root .waits)) (tree .stands) in
             let reads = sheet-body ∙ tree .reads in
             record {
-              sheet = record { board = b; player = p; root = tree .root };
-              reads = text-reads ∙ reads;
-              for = refl;
-              held = record { long = weighs-long weighs ∙ long; on = refl; well = well-read t _ reads; root = weighs-at weighs (tree .stands) };
+              reply-is =
+                  record {
+                    sheet = record { board = b; player = p; root = tree .root };
+                    reads = text-reads ∙ reads;
+                    for = refl;
+                    held = record { long = weighs-long weighs ∙ long; on = refl; well = well-read t _ reads; root = weighs-at weighs (tree .stands) };
+                  };
+              table-is = weighs .table-is ∙ settles _ (tree .reads);
             }
 
 -- what the reading told

@@ -2,7 +2,7 @@
 ghost use mathlib.Core.Path.{_≡_};
 ghost use lib.ListN.{length, replicate};
 ghost use Rattle.rules.specs.Sizes.{leastWorkspace};
-ghost use Rattle.loading.specs.Held.{SheetReply};
+ghost use Rattle.loading.specs.Held.{SheetKept};
 use lines::HeaderRead;
 use lines::header_line;
 use nodes::weigh_move;
@@ -33,7 +33,7 @@ pub enum SheetRead {
 // Reads a sheet into the table: 2 to 9.
 pub fn read_sheet(sheet: &[u8], table: &mut [u32]) -> SheetRead
     requires { ⌜ length (now table) ≡ leastWorkspace ⌝ }
-    ensures { λ r. ⌜ SheetReply (now (sheet .entry)) r (now (table .exit)) ⌝ }
+    ensures { λ r. ⌜ SheetKept (now (sheet .entry)) (now (table .entry)) r (now (table .exit)) ⌝ }
 {
     if 32768 < sheet.len() {
         return SheetRead::Refused {

@@ -9,7 +9,7 @@ use Rattle.loading.proofs.read_sheet.Statement.{statement}
 use Rattle.loading.proofs.read_sheet.Tie as tie
 
 returns : tie.Need-returns
-returns c = text-long _ (c .if1 .taken)
+returns c = text-long _ _ (c .if1 .taken)
 
 header-line-requires : tie.Need-header-line-requires
 header-line-requires c κs = search needs
@@ -23,7 +23,7 @@ enum-told c = search needs
 returns-2 : tie.Need-returns-2
 returns-2 c =
     let header = c .before .before in
-    text-headless _ (header .before .if1 .left) (seen headerSeen (header .header-line .ensures) (c .enum-told .given .1) .same)
+    text-headless _ (header .before .if1 .left) _ (seen headerSeen (header .header-line .ensures) (c .enum-told .given .1) .same)
 
 sub-body : tie.Need-sub-body
 sub-body c = seen headerSeen (c .before .before .before .header-line .ensures) (c .before .board .given .1) .passed .inside
