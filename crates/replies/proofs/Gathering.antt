@@ -1,10 +1,10 @@
 -- Requests that were answered one after another, and their replies.
-use mathlib.Core.Path.{_≡_, ap, subst, subst⁻¹, _∙_}
+use mathlib.Core.Path.{_≡_, ap, subst⁻¹, _∙_}
 use Prim.Native.Nat.{ℕ, _+_, _-_, _<_, _≤_}
 use mathlib.Core.List.{List, [], _∷_, _++_}
 use native.Mathlib.Omega.{arith}
 use lib.ListN.{length, take, drop, length-append, length-take, length-drop}
-use lib.Seq.{take-all, take-add, take-at}
+use lib.Seq.{take-add, take-at}
 use Rattle.rules.specs.Text.{Bytes}
 use Rattle.report.specs.Writing.{Wrote}
 use Rattle.report.proofs.Writing.{wrote-length}
@@ -12,8 +12,7 @@ use Rattle.requests.specs.Sent.{sent, WholeIn}
 use Rattle.requests.specs.declared.Request.{Request}
 use Rattle.requests.proofs.Finding.{sent-in, sent-bytes}
 use Rattle.replies.specs.Reply.{replyOf}
-use Rattle.replies.specs.Answers.{replied, RepliesTo, none, more, AnsweredTo, AnswerOf, EndsWith, gatheredAs, GatheredFrom}
-use Rattle.replies.specs.declared.answers.FirstReply.{FirstReply}
+use Rattle.replies.specs.Answers.{replied, RepliesTo, none, more, AnsweredTo, EndsWith, gatheredAs, GatheredFrom}
 use Rattle.replies.specs.declared.answers.Ending.{Ending}
 use Rattle.replies.specs.declared.answers.Gathered.{Gathered}
 
@@ -54,12 +53,6 @@ gathered-more {bytes} {replies} {taken} {said} {replies′} {next} {end} g a =
 -- nothing more is said where the replies are as they were
 pub gathered-same : {bytes replies : Bytes} {taken said : ℕ} {replies′ : Bytes} → GatheredSoFar bytes replies taken said → replies′ ≡ replies → GatheredSoFar bytes replies′ taken said
 gathered-same {bytes} {taken = taken} {said} g e = subst⁻¹ (λ (t : Bytes). GatheredSoFar bytes t taken said) e g
-
--- an answer to the first request of the slice that was not yet taken is one of what is left of the bytes
-pub answer-rest : (bytes : Bytes) (taken : ℕ) (replies : Bytes) (at : ℕ) (replies′ : Bytes) (a : FirstReply)
-    → AnswerOf (take (length bytes - taken) (drop taken bytes)) replies at replies′ a → AnswerOf (drop taken bytes) replies at replies′ a
-answer-rest bytes taken replies at replies′ a =
-    subst (λ (t : Bytes). AnswerOf t replies at replies′ a) (take-all (length bytes - taken) (drop taken bytes) (omega (arith, length-drop taken bytes)))
 
 -- no further request is answered
 pub gathered : {bytes replies : Bytes} {taken said : ℕ} {ending : Ending} {g : Gathered} → GatheredSoFar bytes replies taken said → EndsWith (drop taken bytes) ending

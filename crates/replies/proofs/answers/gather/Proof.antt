@@ -5,7 +5,8 @@ use native.Mathlib.Omega.{arith}
 use lib.ListN.{length, length-drop}
 use denote.Ref.{now}
 use borrow.Author.Needs.{needs}
-use Rattle.replies.proofs.Gathering.{GatheredSoFar, gathered-none, gathered-more, gathered-same, some-taken, answer-rest, gathered}
+use Rattle.rules.proofs.Lists.{part-from}
+use Rattle.replies.proofs.Gathering.{GatheredSoFar, gathered-none, gathered-more, gathered-same, some-taken, gathered}
 use Rattle.replies.proofs.answers.gather.Statement.{statement}
 use Rattle.replies.proofs.answers.gather.Tie as tie
 
@@ -55,8 +56,7 @@ same-length-4 c = search needs
 
 returns : tie.Need-returns Inv-loop μ-loop
 returns c =
-    let first = c .before .before .before .before .before .before .before .before .before .before .before .answer-first in
-    let h = rw (c .before .enum-told .given .1) at (answer-rest (now (c .before .before .before .before .before .before .before .before .before .before .before .before .before .before .before .before .before .before .before .before .before .before .before .before .args .bytes)) (c .before .before .before .before .before .before .before .before .before .before .before .before .before .before .before .before .before .before .loop .taken) _ _ _ (first .result) (first .ensures)) in
+    let h = rw (c .before .enum-told .given .1, part-from (now (c .before .before .before .before .before .before .before .before .before .before .before .before .before .before .before .before .before .before .before .before .before .before .before .before .args .bytes)) (c .before .before .before .before .before .before .before .before .before .before .before .before .before .before .before .before .before .before .loop .taken)) at (c .before .before .before .before .before .before .before .before .before .before .before .answer-first .ensures) in
     gathered (gathered-same (c .before .before .before .before .before .before .before .before .before .before .before .before .before .before .before .before .before .before .loop .inv .0) (h .0)) (h .1) (c .so-far .ensures)
 
 enum-told-2 : tie.Need-enum-told-2 Inv-loop μ-loop
@@ -79,8 +79,7 @@ same-length-8 c = search needs
 
 returns-2 : tie.Need-returns-2 Inv-loop μ-loop
 returns-2 c =
-    let first = c .before .before .before .before .before .before .before .before .before .before .before .answer-first in
-    let h = rw (c .before .enum-told2 .given .1) at (answer-rest (now (c .before .before .before .before .before .before .before .before .before .before .before .before .before .before .before .before .before .before .before .before .before .before .before .before .args .bytes)) (c .before .before .before .before .before .before .before .before .before .before .before .before .before .before .before .before .before .before .loop .taken) _ _ _ (first .result) (first .ensures)) in
+    let h = rw (c .before .enum-told2 .given .1, part-from (now (c .before .before .before .before .before .before .before .before .before .before .before .before .before .before .before .before .before .before .before .before .before .before .before .before .args .bytes)) (c .before .before .before .before .before .before .before .before .before .before .before .before .before .before .before .before .before .before .loop .taken)) at (c .before .before .before .before .before .before .before .before .before .before .before .answer-first .ensures) in
     gathered (gathered-same (c .before .before .before .before .before .before .before .before .before .before .before .before .before .before .before .before .before .before .loop .inv .0) (h .0)) (h .1) (c .so-far2 .ensures)
 
 enum-known-answer : tie.Need-enum-known-answer Inv-loop μ-loop
@@ -88,20 +87,17 @@ enum-known-answer c = search needs
 
 add-taken : tie.Need-add-taken Inv-loop μ-loop
 add-taken c =
-    let first = c .before .before .before .before .before .before .before .before .before .before .before .answer-first in
-    let a = rw (c .before .answer .given .1) at (answer-rest (now (c .before .before .before .before .before .before .before .before .before .before .before .before .before .before .before .before .before .before .before .before .before .before .before .before .args .bytes)) (c .before .before .before .before .before .before .before .before .before .before .before .before .before .before .before .before .before .before .loop .taken) _ _ _ (first .result) (first .ensures)) in
+    let a = rw (c .before .answer .given .1, part-from (now (c .before .before .before .before .before .before .before .before .before .before .before .before .before .before .before .before .before .before .before .before .before .before .before .before .args .bytes)) (c .before .before .before .before .before .before .before .before .before .before .before .before .before .before .before .before .before .before .loop .taken)) at (c .before .before .before .before .before .before .before .before .before .before .before .answer-first .ensures) in
     omega (arith, a .inside, length-drop (c .before .before .before .before .before .before .before .before .before .before .before .before .before .before .before .before .before .before .loop .taken) (now (c .before .before .before .before .before .before .before .before .before .before .before .before .before .before .before .before .before .before .before .before .before .before .before .before .args .bytes)))
 
 loop-less : tie.Need-loop-less Inv-loop μ-loop
 loop-less c =
-    let first = c .before .before .before .before .before .before .before .before .before .before .before .answer-first in
-    let a = rw (c .before .answer .given .1) at (answer-rest (now (c .before .before .before .before .before .before .before .before .before .before .before .before .before .before .before .before .before .before .before .before .before .before .before .before .args .bytes)) (c .before .before .before .before .before .before .before .before .before .before .before .before .before .before .before .before .before .before .loop .taken) _ _ _ (first .result) (first .ensures)) in
+    let a = rw (c .before .answer .given .1, part-from (now (c .before .before .before .before .before .before .before .before .before .before .before .before .before .before .before .before .before .before .before .before .before .before .before .before .args .bytes)) (c .before .before .before .before .before .before .before .before .before .before .before .before .before .before .before .before .before .before .loop .taken)) at (c .before .before .before .before .before .before .before .before .before .before .before .answer-first .ensures) in
     omega (arith, some-taken a, a .inside, length-drop (c .before .before .before .before .before .before .before .before .before .before .before .before .before .before .before .before .before .before .loop .taken) (now (c .before .before .before .before .before .before .before .before .before .before .before .before .before .before .before .before .before .before .before .before .before .before .before .before .args .bytes)))
 
 loop-again : tie.Need-loop-again Inv-loop μ-loop
 loop-again c =
-    let first = c .before .before .before .before .before .before .before .before .before .before .before .answer-first in
-    let a = rw (c .before .answer .given .1) at (answer-rest (now (c .before .before .before .before .before .before .before .before .before .before .before .before .before .before .before .before .before .before .before .before .before .before .before .before .args .bytes)) (c .before .before .before .before .before .before .before .before .before .before .before .before .before .before .before .before .before .before .loop .taken) _ _ _ (first .result) (first .ensures)) in
+    let a = rw (c .before .answer .given .1, part-from (now (c .before .before .before .before .before .before .before .before .before .before .before .before .before .before .before .before .before .before .before .before .before .before .before .before .args .bytes)) (c .before .before .before .before .before .before .before .before .before .before .before .before .before .before .before .before .before .before .loop .taken)) at (c .before .before .before .before .before .before .before .before .before .before .before .answer-first .ensures) in
     (gathered-more (c .before .before .before .before .before .before .before .before .before .before .before .before .before .before .before .before .before .before .loop .inv .0) a, search needs, search needs, search needs, search needs)
 
 so-far-requires-3 : tie.Need-so-far-requires-3 Inv-loop μ-loop

@@ -25,7 +25,7 @@ slice-aggregate-write-line-2 : tie.Need-slice-aggregate-write-line-2
 slice-aggregate-write-line-2 c = sym (length-take-le _ _ (c .before .before .before .before .before .lent-right .ensures .1 (not-false _ (c .before .before .before .before .if1 .left)) .1 .there))
 
 write-line-requires : tie.Need-write-line-requires
-write-line-requires c κs = reply-fits (c .before .before .before .before .before .before .before .before .before .before .before .before .before .outcome .result .cells) _ _ 44 (search needs) (omega (arith, c .before .before .before .before .before .before .before .before .before .before .before .before .before .before .before .before .before .before .before .before .pre .0 .0, c .before .before .before .before .before .lent-right .ensures .1 (not-false _ (c .before .before .before .before .if1 .left)) .1 .there)) (omega arith)
+write-line-requires c κs = reply-fits (c .before .before .before .before .before .before .before .before .before .before .before .before .before .outcome .result .cells) _ _ 44 (c .before .before .before .before .before .before .before .before .before .before .before .before .before .before .before .before .before .before .before .before .pre .1) (omega (arith, c .before .before .before .before .before .before .before .before .before .before .before .before .before .before .before .before .before .before .before .before .pre .0 .0, c .before .before .before .before .before .lent-right .ensures .1 (not-false _ (c .before .before .before .before .if1 .left)) .1 .there)) (omega arith)
 
 returns-2 : tie.Need-returns-2
 returns-2 c = wrote-outcome (c .before .before .before .before .before .before .before .before .before .before .before .before .before .before .before .before .outcome .ensures) (c .before .before .before .before .before .before .before .before .before .before .before .tell .ensures) (c .before .before .before .before .before .before .narrow .ensures) (c .before .before .write-line .ensures)
