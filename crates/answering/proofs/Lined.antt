@@ -3,7 +3,6 @@ use mathlib.Core.Path.{_≡_, sym, ap, _∙_}
 use Prim.Native.Nat.{ℕ, zero, suc, _+_}
 use native.Mathlib.Omega.{arith}
 use mathlib.Core.List.{List, [], _∷_, _++_, append-assoc, append-nil}
-use lib.ListN.{length}
 use Rattle.rules.specs.Tree.{Waits, noWaits, wait, Moves, noMoves, move, Sheet, moveCount, waitCount}
 use Rattle.rules.specs.Plain.{linesOfWaits, linesOfMoves, linesOf, upFrom, WellRead}
 use Rattle.nodes.specs.Nodes.{size, nodesOfWaits, nodesOfMoves}

@@ -5,14 +5,13 @@ use mathlib.Core.Bool.{Bool, false, not, _&&_, _||_}
 use mathlib.Core.List.{List}
 use mathlib.Core.Option.{Option, none, some}
 use Prim.Native.Nat.{ℕ, _+_, _<_, _≤_}
-use lib.Dec.{eqb}
 use Rattle.rules.specs.Sizes.{mostNodes}
 use Rattle.rules.specs.declared.Board.{Board}
 use Rattle.rules.specs.Tree.{noMoves, Wait, Move, Sheet}
 use Rattle.rules.specs.Fair.{Fault, notApart, notElusive, firstNotApart, firstNotElusive}
 use Rattle.cells.specs.Cells.{held}
 use Rattle.nodes.specs.Nodes.{aWait, aMove, nodesOfWaits, nodesOfMoves}
-use Rattle.nodes.specs.Table.{cellIn, RowOn, At}
+use Rattle.nodes.specs.Table.{RowOn, At}
 use Rattle.nodes.specs.Order.{TreeNode, isMove, isWait}
 use Rattle.fair.specs.declared.Fault as answered
 use Rattle.fair.specs.declared.Test.{Test}

@@ -1,8 +1,6 @@
 // fair: apart and elusive, decided over the node table. It holds the two searches for the first faulty node, each with that node's
 // smallest faulty cell. It sees rules, cells and nodes.
-ghost use mathlib.Core.Path.{_≡_};
-ghost use Prim.Native.Nat.{_+_, _*_, _<_, _≤_};
-ghost use lib.ListN.{length};
+ghost use Prim.Native.Nat.{_+_, _<_, _≤_};
 ghost use Rattle.rules.specs.Fair.{firstNotApart, firstNotElusive};
 ghost use Rattle.rules.specs.Tree.{Sheet};
 ghost use Rattle.cells.specs.Cells.{Fits};

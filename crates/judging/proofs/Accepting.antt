@@ -1,7 +1,7 @@
 -- The checks of a held sheet one after another, and what judge replies.
-use mathlib.Core.Path.{_≡_, refl, sym, ap, _∙_, subst}
+use mathlib.Core.Path.{_≡_, sym, ap, _∙_, subst}
 use mathlib.Core.List.{List}
-use Prim.Native.Nat.{ℕ, _+_, _-_, _≤_, _<_}
+use Prim.Native.Nat.{ℕ, _+_, _-_, _≤_}
 use native.Mathlib.Omega.{arith}
 use Rattle.rules.specs.Sizes.{mostNodes}
 use Rattle.rules.specs.Tree.{Sheet, everyWait, moveCount, waitCount}

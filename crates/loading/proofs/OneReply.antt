@@ -1,5 +1,5 @@
 -- A text is read in one way: two replies that the contract of `read_sheet` allows are equal, with the table that they leave.
-use mathlib.Core.Path.{_≡_, refl, sym, ap, ap₂, _∙_}
+use mathlib.Core.Path.{_≡_, sym, ap, ap₂, _∙_}
 use mathlib.Core.List.{List}
 use Prim.Native.Nat.{ℕ}
 use Rattle.rules.specs.Text.{Bytes}

@@ -7,7 +7,7 @@ use mathlib.Core.Option.{Option, none, some}
 use lib.Dec.{T}
 use native.Mathlib.Omega.{arith}
 use Rattle.rules.specs.Text.{Bytes}
-use Rattle.rules.specs.Lines.{Place, Line, readerOf, kindUnder}
+use Rattle.rules.specs.Lines.{Place, Line, kindUnder}
 use Rattle.rules.specs.Tree.{Waits, noWaits, wait, Moves, noMoves, move, Sheet}
 use Rattle.rules.specs.Written.{writtenHeader, placeOf, howManyWaits, howManyMoves, writtenMove, writtenWait, writtenWaits, writtenMoves, written}
 use Rattle.rules.specs.Reading.{within, cellOf}

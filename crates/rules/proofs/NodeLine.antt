@@ -1,17 +1,16 @@
 -- What the next node's line comes to: a case for each refusal in its order, and one where it is read.
-use mathlib.Core.Path.{_≡_, refl, sym, ap, subst, subst⁻¹, _∙_}
+use mathlib.Core.Path.{_≡_, refl, subst, subst⁻¹}
 use mathlib.Core.Logic.{_≢_}
-use Prim.Native.Nat.{ℕ, zero, suc, _+_, _≤_}
-use mathlib.Core.Bool.{Bool, true, false, not}
-use mathlib.Core.List.{List, [], _∷_}
+use Prim.Native.Nat.{ℕ}
+use mathlib.Core.Bool.{Bool, true, false}
+use mathlib.Core.List.{[], _∷_}
 use mathlib.Core.Option.{Option, none, some}
-use lib.Dec.{T, eqb, eqb→eq}
+use lib.Dec.{T, eqb}
 use borrow.Author.Tests.{eq-eqb, ne-eqb, eqb-true, eqb-false}
-use native.Mathlib.Omega.{arith}
 use Rattle.rules.specs.Sizes.{mostNodes}
 use Rattle.rules.specs.Text.{Bytes, Reader}
 use Rattle.rules.specs.Lines.{Line}
-use Rattle.rules.specs.Reading.{Result, refused, got, Spot, go, give, within, cellOf, Node, refuseHere, lineHere, nodeHere, thisSpot, isNothing, nodeLine}
+use Rattle.rules.specs.Reading.{Result, refused, Spot, go, give, within, Node, refuseHere, lineHere, nodeHere, thisSpot, isNothing, nodeLine}
 use Rattle.rules.specs.declared.Board.{Board}
 use Rattle.rules.specs.declared.Verdict.the-variants.{BadLine, OffBoard, TooManyNodes, TooDeep, Unfinished}
 use Rattle.rules.proofs.Tests.{true-of, false-of}

@@ -5,8 +5,8 @@ use Prim.Native.Nat.{ℕ, zero, suc, _+_, _-_, _≤_, _<_}
 use mathlib.Core.Bool.{Bool, true, false}
 use mathlib.Core.List.{List, [], _∷_, _++_}
 use mathlib.Core.Option.{Option, none, some}
-use lib.Dec.{T, eqb, eqb→eq, ltb}
-use borrow.Author.Tests.{ne-eqb, eqb-false, ltb-true, ltb-false}
+use lib.Dec.{T, ltb}
+use borrow.Author.Tests.{ltb-true, ltb-false}
 use native.Mathlib.Nat.{eq-zero-or-pos}
 use native.Mathlib.Omega.{arith}
 use Rattle.rules.specs.Sizes.{mostNodes, mostDepth}
@@ -24,7 +24,6 @@ use Rattle.rules.specs.declared.LineKind.the-variants as K
 use Rattle.rules.specs.declared.Player.{Player}
 use Rattle.rules.specs.declared.Verdict.{Verdict}
 use Rattle.rules.specs.declared.Verdict.the-variants.{BadHeader, BadLine, OffBoard, TooManyNodes, TooDeep, Unfinished, TextAfter}
-use Rattle.rules.proofs.Tests.{holds-of, false-of, true-of}
 use Rattle.rules.proofs.Lists.{nothing-in, not-nil}
 use Rattle.rules.proofs.Steps.{none≢some, some-inj, not-refused, got-inj}
 use Rattle.rules.proofs.Lines.{header-is, header-back, LineRead, line-is, line-back}

@@ -5,8 +5,7 @@ use mathlib.Core.List.{List, [], _∷_}
 use lib.ListN.{length, replicate, length-replicate}
 use native.Mathlib.Omega.{arith}
 use Rattle.rules.specs.Sizes.{leastWorkspace}
-use Rattle.rules.specs.Tree.{Sheet, moveCount, waitCount}
-use Rattle.rules.specs.Outcomes.{outcomeCount}
+use Rattle.rules.specs.Tree.{Sheet}
 use Rattle.rules.specs.Board.{smallest}
 use Rattle.rules.specs.Answering.{start, answered, isEmpty}
 use Rattle.rules.specs.Entries.{counts, judge, judged, JudgeKept, play, playShown, workspaceAfter, roomAfter}

@@ -1,7 +1,7 @@
 // sheet: the public face: the three entries over a sheet's text and a lent workspace. It sees rules, cells, nodes, outcomes,
 // answering, loading and judging.
 ghost use mathlib.Core.Path.{_≡_};
-ghost use Prim.Native.Nat.{ℕ, _≤_};
+ghost use Prim.Native.Nat.{_≤_};
 ghost use Rattle.rules.specs.Text.{Bytes};
 ghost use lib.ListN.{length, replicate};
 ghost use Rattle.rules.specs.Sizes.{mostNodes, leastWorkspace};
