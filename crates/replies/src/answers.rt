@@ -12,7 +12,8 @@ ghost use Rattle.replies.specs.Lent.{FilledFrom};
 use crate::lent::fill;
 use crate::lent::lent_right;
 use crate::lent::workspace_right;
-use crate::output::say_memory;
+use crate::print;
+use libc::STDOUT_FILENO;
 use report::one_if;
 use report::report;
 use report::tell;
@@ -24,6 +25,17 @@ use requests::find;
 use sheet::judge;
 use sheet::outcome;
 use sheet::play;
+
+// Prints the replies that were gathered, and says that the memory that was lent is not what document 01 lays down. It is proved that it
+// never comes to that.
+fn say_memory(replies: &[u8], at: usize) -> usize
+    requires { ⌜ ⊥ ⌝ }
+    ensures { λ _. ⌜ ⊥ ⌝ }
+{
+    print(replies, at);
+    io::write_all(STDOUT_FILENO, b"memory\n");
+    0
+}
 
 // The most bytes of a reply's line: seven numbers and a thousand more, each of ten digits and followed by a tab or the line feed.
 const MOST_REPLY: usize = 11077;

@@ -1,22 +1,33 @@
 // replies: the program. It answers requests about sheets from standard input, one line for each, until the input ends. The crate
 // `requests` finds them in what was read; `window` takes the input, `answers` has the replies, `lent` looks after the memory that is lent,
-// `output` prints; here is the loop over them. It sees rules, loading, sheet, report and requests.
+// here are what is printed and the loop over them. It sees rules, loading, sheet, report and requests.
 mod answers;
 mod lent;
-mod output;
 mod window;
 
 ghost use mathlib.Core.Path.{_≡_};
 ghost use Prim.Native.Nat.{_≤_};
-ghost use lib.ListN.{length};
+ghost use lib.ListN.{length, take};
+ghost use Rattle.replies.specs.Answers.{Replies};
 ghost use Rattle.replies.specs.Window.{Within, AnsweredNext};
 use answers::Ending;
 use answers::gather;
-use output::print;
-use output::say_request;
+use libc::STDOUT_FILENO;
 use window::NextWindow;
 use window::Window;
 use window::read_on;
+
+// Writes the first n bytes of the replies to standard output; they are the replies to some requests, and nothing else.
+fn print(replies: &[u8], n: usize)
+    requires { ⌜ (n ≤ length (now replies)) × Replies (take n (now replies)) ⌝ }
+{
+    io::write_all(STDOUT_FILENO, &replies[..n]);
+}
+
+// Says that the request is malformed.
+fn say_request() {
+    io::write_all(STDOUT_FILENO, b"request\n");
+}
 
 // Answers the requests of the window and prints their replies, before more is read.
 fn answer_next(

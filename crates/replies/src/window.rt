@@ -3,7 +3,7 @@ ghost use mathlib.Core.Path.{_≡_};
 ghost use Prim.Native.Nat.{_+_, _<_, _≤_};
 ghost use lib.ListN.{length};
 ghost use Rattle.replies.specs.Window.{Within, Moved, PlaceBehind, ReadOn};
-use crate::output::say_request;
+use crate::say_request;
 use libc::STDIN_FILENO;
 
 // The bytes of the buffer that were read and not yet taken: from start up to end.

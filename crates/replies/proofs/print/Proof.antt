@@ -1,9 +1,9 @@
--- `replies::output::print` meets its contract: the first n bytes are n.
+-- `replies::print` meets its contract: the first n bytes are n.
 use mathlib.Core.Path.{sym}
 use borrow.Author.Needs.{needs}
 use lib.Seq.{length-take-le}
-use Rattle.replies.proofs.output.print.Statement.{statement}
-use Rattle.replies.proofs.output.print.Tie as tie
+use Rattle.replies.proofs.print.Statement.{statement}
+use Rattle.replies.proofs.print.Tie as tie
 
 pub print-spec : {M : Type 1} → statement M
 print-spec =
