@@ -27,6 +27,7 @@ use Rattle.rules.proofs.Lists.{among-append}
 use Rattle.rules.proofs.Joining.{joined-same}
 use Rattle.rules.proofs.Given.{accepted-exactly}
 use Rattle.rules.proofs.Cover.{mine-next, demand-3}
+use Rattle.cells.proofs.Places.{size-fits}
 use Rattle.cells.specs.Cells.{held, Fits}
 use Rattle.nodes.specs.Nodes.{aMove, size, nodesOfWaits}
 use Rattle.nodes.specs.Table.{endIn, SomeNode}
@@ -53,13 +54,7 @@ module _ {t : List ℕ} {b : Board} {p : Player} {s : Sheet} (h : Playable t b p
 
   pub board-fits : Fits b
   board-fits =
-      subst Fits (h .on)
-      (record {
-        some-column = sheet-read .columns .0;
-        few-columns = omega (arith, sheet-read .columns .1);
-        some-row = sheet-read .rows .0;
-        few-rows = omega (arith, sheet-read .rows .1);
-      })
+      subst Fits (h .on) (size-fits (sheet-read .size))
 
   pub root-ended : SomeNode (Ended t) aMove 0
   root-ended = record { cell = _; under = _; at = at-ended (h .root) }

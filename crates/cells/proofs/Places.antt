@@ -2,9 +2,11 @@
 use mathlib.Core.Path.{_≡_}
 use Prim.Native.Nat.{ℕ, _*_, _<_, _≤_}
 use native.Mathlib.Nat.{mul-le-mul}
+use native.Mathlib.Omega.{arith}
 use borrow.Author.Tests.{le-leb, lt-leb}
 use lib.Dec.{leb}
 use Rattle.rules.specs.Board.{cells, isCell}
+use Rattle.rules.specs.Unread.{BoardSize}
 use Rattle.rules.specs.declared.Board.{Board}
 use Rattle.cells.specs.Cells.{Fits}
 
@@ -20,3 +22,8 @@ module _ (b : Board) (x : ℕ) where
   pub cell-none : x < 1 → leb 1 x ≡ isCell b x
   unfolding isCell cells
   cell-none h = rw (lt-leb 1 x h, isCell)
+
+-- a board of document 01 fits
+pub size-fits : {b : Board} → BoardSize b → Fits b
+size-fits z =
+    record { some-column = z .columns .0; few-columns = omega (arith, z .columns .1); some-row = z .rows .0; few-rows = omega (arith, z .rows .1) }

@@ -1,7 +1,7 @@
 -- A search tells one fault of a sheet: two answers that the contracts of `not_apart` and `not_elusive` allow are equal.
 use mathlib.Core.Path.{_≡_, refl, sym, ap, ap₂, _∙_}
 use mathlib.Core.Option.{Option, none, some}
-use Prim.Native.Nat.{ℕ, _+_}
+use Prim.Native.Nat.{_+_}
 use native.Mathlib.Omega.{arith}
 use Rattle.rules.specs.Tree.{Sheet}
 use Rattle.rules.specs.Fair.{Fault}

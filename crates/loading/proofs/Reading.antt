@@ -12,7 +12,6 @@ use Rattle.rules.specs.Lines.{Header, headerLine}
 use Rattle.rules.specs.Reading.{Result, refused, readBody, headed, readSheet}
 use Rattle.rules.specs.Tree.{Sheet}
 use Rattle.rules.specs.Entries.{_>>=_, refuseIf, readText}
-use Rattle.rules.specs.Unread.{BoardSize}
 use Rattle.rules.specs.declared.Board.{Board}
 use Rattle.rules.specs.declared.Player.{Player}
 use Rattle.rules.specs.declared.LineKind.the-variants.{First}
@@ -21,6 +20,7 @@ use Rattle.rules.specs.declared.Verdict.the-variants.{LongText, BadHeader}
 use Rattle.rules.proofs.Lists.{part-from}
 use Rattle.rules.proofs.Lines.{header-is}
 use Rattle.rules.proofs.WellRead.{well-read}
+use Rattle.cells.proofs.Places.{size-fits}
 use Rattle.cells.specs.Cells.{Fits}
 use Rattle.nodes.specs.Nodes.{aMove, nodesOfWaits}
 use Rattle.nodes.specs.Table.{Row, SomeNode}
@@ -66,10 +66,7 @@ module _ (t : Bytes) (short : length t ≤ mostBytes) where
     sheet-body = rw (sym e)
 
     header-fits : Fits b
-    unfolding BoardSize
-    header-fits =
-        let z = header-is t (record { board = b; player = p }, body) (sym e) .1 in
-        record { some-column = z .0 .0; few-columns = omega (arith, z .0 .1); some-row = z .1 .0; few-rows = omega (arith, z .1 .1) }
+    header-fits = size-fits (header-is t (record { board = b; player = p }, body) (sym e) .1)
 
     pub body-ready : (table : List ℕ) → length body ≤ length t → length table ≡ leastWorkspace → BodyReady b body table
     body-ready table within long = record { fits = header-fits; short = omega (arith, within, short); long = long }

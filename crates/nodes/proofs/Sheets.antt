@@ -9,6 +9,7 @@ use Rattle.rules.specs.declared.Board.{Board}
 use Rattle.rules.specs.Board.{isCell}
 use Rattle.rules.specs.Words.{_∈_}
 use Rattle.rules.specs.Tree.{Move, Sheet, movesOfWaits}
+use Rattle.cells.proofs.Places.{size-fits}
 use Rattle.cells.specs.Cells.{Fits}
 use Rattle.nodes.specs.Nodes.{aMove, nodesOfWaits, size}
 use Rattle.nodes.specs.Table.{endIn, Row, RowOn, At}
@@ -20,13 +21,7 @@ module _ {t : List ℕ} {b : Board} {s : Sheet} (h : HoldsSheet t b s) where
   -- its board fits a set of cells
   pub sheet-fits : Fits b
   sheet-fits =
-      subst Fits (h .on)
-      (record {
-        some-column = h .well .columns .0;
-        few-columns = omega (arith, h .well .columns .1);
-        some-row = h .well .rows .0;
-        few-rows = omega (arith, h .well .rows .1);
-      })
+      subst Fits (h .on) (size-fits (h .well .size))
 
   -- its tree stands there, from node 0 on
   pub sheet-stands : At (Row t) aMove 0 (s .root .cell) (nodesOfWaits (s .root .waits))

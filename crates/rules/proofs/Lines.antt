@@ -86,7 +86,7 @@ player-is t y e =
 
 -- line 1
 pub header-is : (t : Bytes) (y : Header × Bytes) → headerLine t ≡ some y → (t ≡ writtenHeader (y .0 .board) (y .0 .player) ++ y .1) × BoardSize (y .0 .board)
-unfolding headerLine writtenHeader tab lineFeed printed aLine tabbed give BoardSize
+unfolding headerLine writtenHeader tab lineFeed printed aLine tabbed give
 header-is t y e =
     word-then "hex" t _ e λ u₁ p₁ e₁.
     byte-then 9 u₁ _ e₁ λ u₂ p₂ e₂.
@@ -97,7 +97,7 @@ header-is t y e =
     step-then player u₆ _ e₆ λ p u₇ p₇ e₇.
     byte-then 10 u₇ _ e₇ λ u₈ p₈ e₈.
     subst (λ (z : Header × Bytes). (t ≡ writtenHeader (z .0 .board) (z .0 .player) ++ z .1) × BoardSize (z .0 .board)) (some-inj e₈)
-    (rw (p₁, p₂, p₃, p₄, p₅, p₆, player-is u₆ (p, u₇) p₇, p₈) (simp append-assoc), ((c₁, c₂), (r₁, r₂)))
+    (rw (p₁, p₂, p₃, p₄, p₅, p₆, player-is u₆ (p, u₇) p₇, p₈) (simp append-assoc), record { columns = (c₁, c₂); rows = (r₁, r₂) })
 
 letter-is : (t : Bytes) (y : ℕ × Bytes) → letter t ≡ some y → (t ≡ (96 + y .0) ∷ y .1) × (1 ≤ y .0) × (y .0 ≤ 26)
 unfolding letter bind anyByte give
@@ -219,11 +219,11 @@ player-back D u = refl
 player-back A u = refl
 
 pub header-back : (b : Board) (p : Player) (u : Bytes) → BoardSize b → headerLine (writtenHeader b p ++ u) ≡ some (record { board = b; player = p }, u)
-unfolding headerLine writtenHeader tabbedOn tab lineFeed byte word anyByte guard bind printed give BoardSize digits isDigit
+unfolding headerLine writtenHeader tabbedOn tab lineFeed byte word anyByte guard bind printed give digits isDigit
 header-back b p u z =
     ap headerLine (line-on (printed "hex") (decimal (b .columns) ∷ decimal (b .rows) ∷ writtenPlayer p ∷ []) u)
-    ∙ step-back (number-back 1 largest (b .columns) _ (z .0 .0) (z .0 .1) refl) _
-    (step-back (number-back 1 largest (b .rows) _ (z .1 .0) (z .1 .1) refl) _ (step-back (player-back p _) _ refl))
+    ∙ step-back (number-back 1 largest (b .columns) _ (z .columns .0) (z .columns .1) refl) _
+    (step-back (number-back 1 largest (b .rows) _ (z .rows .0) (z .rows .1) refl) _ (step-back (player-back p _) _ refl))
 
 place-back : (p : Place) (u : Bytes) → Nameable p → digits u ≡ [] → place (writtenPlace (some p) ++ u) ≡ some (p, u)
 unfolding place letter writtenPlace anyByte guard bind give
@@ -280,16 +280,16 @@ pub record Names (r : Reader Line) (b : Board) (x : ℕ) : Type 0 where
 
 module _ (b : Board) (x : ℕ) (z : BoardSize b) where
   pub cell-names : T (isCell b x) → Names moveLine b x
-  unfolding BoardSize within cellOf
+  unfolding within cellOf
   cell-names h =
-      let o = cell-place b x (z .0 .0) h in
+      let o = cell-place b x (z .columns .0) h in
       let e = some-place b x (cell-range b x h .0) in
       record {
         inside = rw e (on-test b (columnOf b x) (rowOf b x) o);
         its-cell = rw e (at-place b x h);
         read =
             λ n u l. rw e (move-back n u l (record { column = columnOf b x; row = rowOf b x })
-            (record { letters = (o .left, omega (arith, z .0 .1)); rows = (o .top, omega (arith, z .1 .1)) }));
+            (record { letters = (o .left, omega (arith, z .columns .1)); rows = (o .top, omega (arith, z .rows .1)) }));
       }
 
   pub root-names : (x ≡ 0) ⊎ T (isCell b x) → Names (moveLine orElse dashLine) b x

@@ -37,7 +37,7 @@ few-listed : (s : Sheet) (set : ℕ → Bool) → WellRead s → length (listed 
 unfolding listed cells
 few-listed s set w =
     let b = s .board in
-    let m : b .columns * b .rows ≤ largest * largest = mul-le-mul {n₁ = b .columns} {m₁ = b .rows} {n₂ = largest} {m₂ = largest} (w .columns .1) (w .rows .1) in
+    let m : b .columns * b .rows ≤ largest * largest = mul-le-mul {n₁ = b .columns} {m₁ = b .rows} {n₂ = largest} {m₂ = largest} (w .size .columns .1) (w .size .rows .1) in
     omega (arith, m, keep-split set (upTo (b .columns * b .rows)), upTo-length (b .columns * b .rows))
 
 -- outcome lists few cells

@@ -15,7 +15,6 @@ use Rattle.rules.specs.Lines.{Header, headerLine, moveLine, dashLine}
 use Rattle.rules.specs.Tree.{Waits, noWaits, wait, Moves, noMoves, move, Wait, Move, Sheet, movesOfWaits, movesOfMoves, waitsOfWaits, waitsOfMoves, everyMove, everyWait, moveCount, waitCount}
 use Rattle.rules.specs.Written.{written}
 use Rattle.rules.specs.Reading.{Result, refused, got, Spot, readMove, ended, readBody, headed, readSheet}
-use Rattle.rules.specs.Unread.{BoardSize}
 use Rattle.rules.specs.Plain.{linesOfWaits, linesOfMoves, linesOf, upFrom, depthOfWaits, depthOfMoves, WellRead}
 use Rattle.rules.specs.declared.Board.{Board}
 use Rattle.rules.proofs.Lists.{in-both}
@@ -169,7 +168,7 @@ module _ (t : Bytes) (s : Sheet) (e : readSheet t ≡ got s) where
   root-read = move-read mostDepth (s .board) (moveLine orElse dashLine) (record { of = root-is }) _ (s .root) (sheet-read .after) (sheet-read .root-read)
 
   pub well-read : WellRead s
-  unfolding everyWait moveCount waitCount everyMove linesOf upFrom BoardSize
+  unfolding everyWait moveCount waitCount everyMove linesOf upFrom
   well-read =
       let size = header-is t _ (sheet-read .header) .1 in
       let m = root-read in
@@ -178,8 +177,7 @@ module _ (t : Bytes) (s : Sheet) (e : readSheet t ≡ got s) where
       let n = m .node-of .2 in
       let nodes : length (everyMove s) + length (everyWait s) ≡ suc (nodesInWaits ws) = omega (arith, nodes-of-waits ws) in
       record {
-        columns = size .0;
-        rows = size .1;
+        size = size;
         some-moves = some-in-waits ws b 127 3 (m .waits-of);
         on-board = board-in-waits ws b 127 3 (m .waits-of);
         root-on-board = subst⁻¹ (λ (z : ℕ). (z ≡ 0) ⊎ T (isCell b z)) (m .node-of .3 ∙ n .its-cell) (cell-read b (n .line-read .0 .place) (n .inside));

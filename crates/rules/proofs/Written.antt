@@ -169,11 +169,11 @@ module _ (b : Board) (size : BoardSize b) where
 
 -- what is written of a sheet that is `WellRead` reads as that sheet
 pub read-back : (s : Sheet) → WellRead s → readSheet (written s) ≡ got s
-unfolding readSheet headed readBody ended written linesOf moveCount waitCount everyMove everyWait BoardSize
+unfolding readSheet headed readBody ended written linesOf moveCount waitCount everyMove everyWait
 read-back s h =
     let b = s .board in
     let ws = s .root .waits in
-    let size : BoardSize b = (h .columns, h .rows) in
+    let size = h .size in
     let (line, k, lines) = up-first (s .root .line) 2 _ (linesOfWaits ws) (h .in-order ∙ ap (λ (i : ℕ). upFrom i (moveCount s + waitCount s)) (h .first-line)) in
     let (tree, _, _) = waits-placed ws [] b 127 3 k (h .some-moves) (h .on-board) (omega (arith, h .shallow)) (append-nil (linesOfWaits ws) ∙ lines) in
     let few : 1 + nodesInWaits ws ≤ mostNodes = omega (arith, h .few-nodes, nodes-of-waits ws) in

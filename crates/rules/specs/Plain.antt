@@ -6,13 +6,13 @@ use mathlib.Core.Bool.{Bool}
 use mathlib.Core.List.{List, [], _∷_, _++_}
 use lib.Dec.{T}
 use lib.ListN.{length, getD}
-use Rattle.rules.specs.Sizes.{largest, mostNodes, mostDepth, mostBytes, leastWorkspace, mostOutcomes}
+use Rattle.rules.specs.Sizes.{mostNodes, mostDepth, mostBytes, leastWorkspace, mostOutcomes}
 use Rattle.rules.specs.Words.{_∈_, among}
 use Rattle.rules.specs.Board.{isCell}
 use Rattle.rules.specs.Text.{Bytes}
 use Rattle.rules.specs.Tree.{Waits, noWaits, wait, Moves, noMoves, move, Wait, Move, Sheet, movesOfWaits, everyMove, everyWait, moveCount, waitCount}
 use Rattle.rules.specs.Written.{written}
-use Rattle.rules.specs.Unread.{Unread}
+use Rattle.rules.specs.Unread.{BoardSize, Unread}
 use Rattle.rules.specs.Fair.{Fault, inWaits, holding, inEvery, notApart, notElusive}
 use Rattle.rules.specs.Outcomes.{outcomes, outcomeCount}
 use Rattle.rules.specs.Joining.{Joins}
@@ -54,8 +54,7 @@ unfoldable mutual
 -- What a sheet that reads is: a board of 1 to 13 columns and rows, waits with at least one move, cells on the board, `-` at the
 -- root only, at most 2,048 nodes, at most depth 128, and nodes on the lines 2, 3 and so on
 pub record WellRead (s : Sheet) : Type 0 where
-  pub columns : (1 ≤ s .board .columns) × (s .board .columns ≤ largest)
-  pub rows : (1 ≤ s .board .rows) × (s .board .rows ≤ largest)
+  pub size : BoardSize (s .board)
   pub some-moves : (w : Wait) → w ∈ everyWait s → w .moves ≢ noMoves
   pub on-board : (m : Move) → m ∈ movesOfWaits (s .root .waits) → T (isCell (s .board) (m .cell))
   pub root-on-board : (s .root .cell ≡ 0) ⊎ T (isCell (s .board) (s .root .cell))

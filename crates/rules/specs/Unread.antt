@@ -19,8 +19,9 @@ use Rattle.rules.specs.declared.Verdict.{Verdict}
 use Rattle.rules.specs.declared.Verdict.the-variants.{BadHeader, BadLine, OffBoard, TooManyNodes, TooDeep, Unfinished, TextAfter}
 
 -- a board has 1 to 13 columns and 1 to 13 rows
-unfoldable pub BoardSize : Board → Type 0
-BoardSize b = ((1 ≤ b .columns) × (b .columns ≤ largest)) × ((1 ≤ b .rows) × (b .rows ≤ largest))
+pub record BoardSize (b : Board) : Type 0 where
+  pub columns : (1 ≤ b .columns) × (b .columns ≤ largest)
+  pub rows : (1 ≤ b .rows) × (b .rows ≤ largest)
 
 -- a place that can be written: a letter and a number 1 to 99
 pub record Nameable (p : Place) : Type 0 where
