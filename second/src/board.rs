@@ -9,7 +9,10 @@ pub enum Player {
     A,
 }
 
-/// A board of 1 to 13 columns and 1 to 13 rows.
+/// The most columns and the most rows of a board.
+pub const LARGEST: usize = 19;
+
+/// A board of 1 to 19 columns and 1 to 19 rows.
 #[derive(Clone, Copy, PartialEq, Eq, Debug)]
 pub struct Board {
     pub columns: usize,

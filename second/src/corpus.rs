@@ -124,7 +124,7 @@ fn game(sheet: &Sheet, rng: &mut Rng) -> (Vec<u32>, Vec<u32>) {
 fn no_cell(size: u32, rng: &mut Rng) -> u32 {
     let inside = rng.between(1, size as usize) as u32;
     let next = size + 1;
-    *rng.pick(&[0, 0, next, next, size + 2, 170, 256 + inside, 65_536 + inside, u32::MAX])
+    *rng.pick(&[0, 0, next, next, size + 2, 362, 512 + inside, 65_536 + inside, u32::MAX])
 }
 
 /// Picks any cell of a board of this size, or seldom none.
@@ -193,7 +193,7 @@ fn outcome(maker: &mut Maker, recipe: Recipe, place: usize) -> Request {
         _ => rng.below(count as usize) as u32,
     };
     let mut work = vec![0; WORKSPACE];
-    let cells = entries::outcome(&text, number, &mut [0; 200], &mut work).cells;
+    let cells = entries::outcome(&text, number, &mut [0; 400], &mut work).cells;
     let room = room_for(if cells == 0 { rng.below(20) } else { cells }, rng);
     Request { work: lent(&text, rng), text, ask: Ask::Outcome { room, number } }
 }

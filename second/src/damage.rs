@@ -27,15 +27,19 @@ const COUNTS: [&str; 22] = [
     "",
 ];
 
-const CELLS: [&str; 24] = [
-    "n1",
+const CELLS: [&str; 28] = [
+    "t1",
     "z99",
-    "a14",
+    "a20",
     "a99",
     "z1",
+    "s19",
+    "a19",
+    "s1",
+    "t20",
+    "n1",
+    "a14",
     "m13",
-    "a13",
-    "m1",
     "a100",
     "a0",
     "a00",
@@ -54,7 +58,7 @@ const CELLS: [&str; 24] = [
     "`1",
 ];
 
-const HEADERS: [&str; 40] = [
+const HEADERS: [&str; 44] = [
     "",
     "hex",
     "hex\t",
@@ -77,6 +81,10 @@ const HEADERS: [&str; 40] = [
     "hex\t2\t0\tD",
     "hex\t14\t2\tD",
     "hex\t2\t14\tD",
+    "hex\t19\t19\tD",
+    "hex\t20\t2\tD",
+    "hex\t2\t20\tD",
+    "hex\t20\t20\tA",
     "hex\t02\t2\tD",
     "hex\t2\t02\tD",
     "hex\t+2\t2\tD",
@@ -276,7 +284,7 @@ pub fn off_board(text: &[u8], rng: &mut Rng) -> Vec<u8> {
     let (columns, rows) = (sides[0], sides[1]);
     let right = format!("{}{}", char::from(b'a' + columns), rng.between(1, usize::from(rows)));
     let below = format!("{}{}", char::from(b'a' + rng.below(usize::from(columns)) as u8), rows + 1);
-    let cells = [right, below, "n1".into(), "z99".into(), "a14".into(), "a99".into()];
+    let cells = [right, below, "t1".into(), "z99".into(), "a20".into(), "a99".into()];
     let place = *rng.pick(&moves);
     with_fields(&mut lines[place], |fields| fields[1] = rng.pick(&cells).as_bytes().to_vec());
     if rng.chance(15) {

@@ -49,10 +49,13 @@ pub enum Fault {
     DashAnywhere,
     RootNotCounted,
     RoomOneMore,
+    Boards13,
+    Boards20,
+    LettersToS,
 }
 
 /// Every fault with the name it is asked for by.
-pub const ALL: [(Fault, &str); 44] = [
+pub const ALL: [(Fault, &str); 47] = [
     (Fault::NextToNext, "next-to-next"),
     (Fault::OwnBelow, "own-cell-below-untested"),
     (Fault::FirstCellOnly, "elusive-first-cell-only"),
@@ -97,6 +100,9 @@ pub const ALL: [(Fault, &str); 44] = [
     (Fault::DashAnywhere, "dash-anywhere"),
     (Fault::RootNotCounted, "dash-root-not-counted"),
     (Fault::RoomOneMore, "room-one-more-needed"),
+    (Fault::Boards13, "boards-to-13"),
+    (Fault::Boards20, "boards-to-20"),
+    (Fault::LettersToS, "letters-to-s"),
 ];
 
 thread_local! {

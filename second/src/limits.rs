@@ -1,7 +1,11 @@
 //! Sheets at, below and above every limit.
 
+use crate::board::LARGEST;
 use crate::plan::{leaf, name, pair, step, Plan, Spot, Step, NONE};
 use crate::rng::Rng;
+
+/// The most columns and rows of a board, and those of one that is smaller.
+const SIDES: [i32; 2] = [13, LARGEST as i32];
 
 /// Gives a wait of so many single moves that takes turns over these spots.
 fn wide(count: usize, spots: &[Spot]) -> Vec<Step> {
@@ -27,7 +31,7 @@ pub fn long_text(base: &[u8], rng: &mut Rng) -> Vec<u8> {
 /// Makes a finished tree of exactly so many nodes on a small board.
 pub fn many_nodes(nodes: usize, rng: &mut Rng) -> Plan {
     let rows = rng.between(1, 2) as i32;
-    let columns = rng.between(5, 13) as i32;
+    let columns = rng.between(5, LARGEST) as i32;
     let mut plan = Plan::new(columns, rows, leaf((2, 1)));
     let mut spots: Vec<Spot> = plan.unused(rng);
     spots.retain(|&spot| spot != (1, 2) && spot != (2, 2));
@@ -46,7 +50,8 @@ pub fn many_nodes(nodes: usize, rng: &mut Rng) -> Plan {
 /// Makes a text whose node lines run up to the limit and end there in some way.
 pub fn overfull(rng: &mut Rng) -> Vec<u8> {
     let nodes = *rng.pick(&[2_047, 2_048, 2_048, 2_049]);
-    let mut text = b"hex\t13\t13\tD\nm\tg7\t2047\n".to_vec();
+    let side = *rng.pick(&SIDES);
+    let mut text = format!("hex\t{side}\t{side}\tD\nm\tg7\t2047\n").into_bytes();
     let mut written = 1;
     let size = rng.between(1, 3);
     while written < nodes {
@@ -58,7 +63,7 @@ pub fn overfull(rng: &mut Rng) -> Vec<u8> {
         written += 1 + left;
     }
     let ends: [&[u8]; 9] =
-        [b"", b"x", b"\n", b"w\t2\n", b"m\ta2\t0\n", b"m\tn1\t0\n", b"w\t1", b"\0", b"w\t0\nm\n"];
+        [b"", b"x", b"\n", b"w\t2\n", b"m\ta2\t0\n", b"m\tt1\t0\n", b"w\t1", b"\0", b"w\t0\nm\n"];
     text.extend(*rng.pick(&ends));
     text
 }
@@ -86,7 +91,8 @@ fn nested(spots: &[Spot], exits: (Spot, Spot)) -> Step {
 
 /// Makes a chain of an odd depth on a large board; past the limit its cells repeat.
 pub fn deep(depth: usize, rng: &mut Rng) -> Plan {
-    let plan = Plan::new(13, rng.between(11, 13) as i32, leaf(NONE));
+    let (columns, rows) = (rng.between(13, LARGEST), rng.between(11, LARGEST));
+    let plan = Plan::new(columns as i32, rows as i32, leaf(NONE));
     let board = plan.unused(rng);
     let spots = &board[2..2 + depth / 2];
     Plan { root: nested(spots, (board[0], board[1])), ..plan }
@@ -94,10 +100,11 @@ pub fn deep(depth: usize, rng: &mut Rng) -> Plan {
 
 /// Makes a text that runs straight down to about the depth limit and ends there in some way.
 pub fn deep_text(rng: &mut Rng) -> Vec<u8> {
-    let mut text = b"hex\t13\t13\tA\n".to_vec();
+    let side = *rng.pick(&SIDES);
+    let mut text = format!("hex\t{side}\t{side}\tA\n").into_bytes();
     let depth = if rng.chance(60) { 128 } else { rng.between(126, 130) };
-    for level in 1..=depth {
-        let spot = (level as i32 % 13 + 1, level as i32 / 13 + 1);
+    for level in 1..=depth as i32 {
+        let spot = (level % side + 1, level / side + 1);
         let line = if level % 2 == 1 { format!("m\t{}\t1\n", name(spot)) } else { "w\t2\n".into() };
         text.extend(line.bytes());
     }
@@ -105,18 +112,32 @@ pub fn deep_text(rng: &mut Rng) -> Vec<u8> {
         b"",
         b"m\ta1\t0\n",
         b"w\t2\n",
-        b"m\tn1\t0\n",
+        b"m\tt1\t0\n",
         b"m\tz99\t1\n",
         b"m\t-\t0\n",
         b"m\ta1\t2048\n",
-        b"m\tn1\t01\n",
+        b"m\tt1\t01\n",
         b"m\ta1\t0",
         b"x\n",
         b"\n",
-        b"m\ta14\t2\n",
+        b"m\ta20\t2\n",
     ];
     text.extend(*rng.pick(&ends));
     text
+}
+
+/// Makes a sheet of one move on a board at or past the largest, on a cell at an edge or past it.
+pub fn edge_board(rng: &mut Rng) -> Vec<u8> {
+    let most = LARGEST as i32;
+    let sides = [1, 13, 14, most - 1, most, most, most + 1, most + 1, most + 2];
+    let (columns, rows) = (*rng.pick(&sides), *rng.pick(&sides));
+    let spot =
+        (*rng.pick(&[1, columns, columns, columns + 1]), *rng.pick(&[1, rows, rows, rows + 1]));
+    let mut plan = Plan::new(columns, rows, leaf(spot));
+    if rng.chance(50) {
+        plan.player = 'A';
+    }
+    plan.text()
 }
 
 /// Makes a line with a count at or past its limit.
@@ -141,11 +162,12 @@ fn product(own: Spot, factors: &[usize], spots: &[Spot]) -> Step {
 /// Makes a plan on a wide board of one row, or more if needed, counting just these factors.
 fn counted(factors: &[usize], one_more: bool, rng: &mut Rng) -> Plan {
     let needed = 2 * factors.len() as i32 + 4;
-    let rows = (needed + 12) / 13;
-    let mut plan = Plan::new(13, rows, leaf(NONE));
+    let columns = *rng.pick(&SIDES);
+    let rows = (needed + columns - 1) / columns;
+    let mut plan = Plan::new(columns, rows, leaf(NONE));
     let mut spots = plan.unused(rng);
     if rows == 2 {
-        let column = rng.between(2, 13) as i32;
+        let column = rng.between(2, columns as usize) as i32;
         let first = [(column, 1), (column - 1, 2), (column, 2)];
         spots.retain(|spot| !first.contains(spot));
         spots.splice(0..0, first);

@@ -1,5 +1,6 @@
 //! The maker of sheets: a pool of won boards and the sheets grown from it.
 
+use crate::board::LARGEST;
 use crate::entries::{judge, WORKSPACE};
 use crate::grow;
 use crate::links;
@@ -17,7 +18,10 @@ pub struct Maker {
     solved: Vec<Plan>,
 }
 
-const SEARCHED: [(usize, usize, usize, usize); 18] = [
+/// The most columns of a board.
+const LAST: i32 = LARGEST as i32;
+
+const SEARCHED: [(usize, usize, usize, usize); 20] = [
     (2, 2, 3, 6),
     (3, 2, 3, 6),
     (3, 3, 4, 6),
@@ -36,6 +40,8 @@ const SEARCHED: [(usize, usize, usize, usize); 18] = [
     (13, 6, 4, 4),
     (10, 7, 4, 6),
     (13, 7, 5, 6),
+    (19, 5, 3, 4),
+    (19, 6, 4, 4),
 ];
 
 const SOLVED: [(usize, usize, bool); 11] = [
@@ -73,10 +79,18 @@ impl Maker {
         Maker { rng, turn: 0, searched, solved }
     }
 
-    /// Picks a number of columns or rows, small ones more often.
+    /// Picks a number of columns or rows, small ones more often, and those at the edges.
     fn side(&mut self) -> i32 {
-        let most = if self.rng.chance(60) { 6 } else { 13 };
-        self.rng.between(1, most) as i32
+        match self.rng.below(10) {
+            0..=5 => self.rng.between(1, 6) as i32,
+            6 | 7 => self.width(1),
+            _ => *self.rng.pick(&[1, 2, 13, 14, LAST - 1, LAST]),
+        }
+    }
+
+    /// Picks a number of columns or rows that is not less than this one.
+    fn width(&mut self, least: i32) -> i32 {
+        self.rng.between(least as usize, LARGEST) as i32
     }
 
     /// Makes a candidate of some kind, which may be no good.
@@ -90,7 +104,7 @@ impl Maker {
             5 => templates::one_row(columns, rng),
             6 => {
                 let one = templates::edges(columns, rows, rng);
-                templates::beside(one, templates::edges(13 - columns.min(12), rows, rng))?
+                templates::beside(one, templates::edges(LAST - columns.min(LAST - 1), rows, rng))?
             }
             _ => {
                 let one = rng.pick(&self.searched).clone();
@@ -118,7 +132,7 @@ impl Maker {
     /// Widens and turns a plan at random, and gives it to A half the time.
     pub fn placed(&mut self, mut plan: Plan) -> Plan {
         if self.rng.chance(50) {
-            let columns = self.rng.between(plan.columns as usize, 13) as i32;
+            let columns = if self.rng.chance(20) { LAST } else { self.width(plan.columns) };
             let left = self.rng.below((columns - plan.columns + 1) as usize) as i32;
             plan = plan.widened(columns, left);
         }
@@ -163,7 +177,7 @@ impl Maker {
     /// Makes an accepted plan with many idle waits open from the start, for long games.
     pub fn idle_plan(&mut self, most: u128) -> Plan {
         let base = self.tall_base(60);
-        let columns = base.columns.max(self.rng.between(6, 13) as i32);
+        let columns = self.width(base.columns.max(6));
         let mut plan = base.widened(columns, 0);
         for _ in 0..self.rng.between(1, 6) {
             if plan.root.outcomes() * 2 <= most {
@@ -180,7 +194,7 @@ impl Maker {
     /// Makes an accepted plan whose waits begin with moves that only delay, for long games.
     pub fn slow_plan(&mut self, most: u128) -> Plan {
         let base = self.tall_base(12);
-        let columns = base.columns.max(self.rng.between(8, 13) as i32);
+        let columns = self.width(base.columns.max(8));
         let mut plan = base.widened(columns, 0);
         for count in [24, 12] {
             let count = self.rng.between(2, count);
@@ -207,10 +221,10 @@ impl Maker {
         plan
     }
 
-    /// Makes a ladder of bridges or a straight chain that fits its board, up to 13 by 13.
+    /// Makes a ladder of bridges or a straight chain that fits its board, up to 19 by 19.
     pub fn long_plan(&mut self) -> Plan {
         loop {
-            let (columns, rows) = (self.rng.between(5, 13) as i32, self.rng.between(3, 13) as i32);
+            let (columns, rows) = (self.width(5), self.width(3));
             let rng = &mut self.rng;
             let plan = if rng.chance(60) {
                 templates::chain(columns, rows, rng)
@@ -225,9 +239,9 @@ impl Maker {
 
     /// Makes a pairing on any board with more columns than rows, with too many outcomes on large ones.
     pub fn pairing(&mut self) -> Plan {
-        let most = *self.rng.pick(&[4, 4, 12]);
+        let most = *self.rng.pick(&[4, 4, LARGEST - 1]);
         let rows = self.rng.between(1, most) as i32;
-        let columns = self.rng.between(rows as usize + 1, 13) as i32;
+        let columns = self.width(rows + 1);
         let plan = templates::pairing(columns, rows, &mut self.rng);
         if self.rng.chance(50) {
             plan.transposed()

@@ -1,5 +1,6 @@
 //! Made-up sheets as trees, and the text they are written as.
 
+use crate::board::LARGEST;
 use crate::rng::Rng;
 use std::collections::BTreeSet;
 
@@ -196,8 +197,9 @@ impl Plan {
     pub fn fits(&self) -> bool {
         let inside =
             |spot: &Spot| (1..=self.columns).contains(&spot.0) && (1..=self.rows).contains(&spot.1);
-        (1..=13).contains(&self.columns)
-            && (1..=13).contains(&self.rows)
+        let sizes = 1..=LARGEST as i32;
+        sizes.contains(&self.columns)
+            && sizes.contains(&self.rows)
             && self.root.spots().iter().all(inside)
     }
 

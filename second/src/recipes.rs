@@ -64,7 +64,7 @@ pub const DAMAGED: [(usize, Recipe); 11] = [
 ];
 
 /// Texts at the limits of reading.
-pub const LIMITS: [(usize, Recipe); 6] = [
+pub const LIMITS: [(usize, Recipe); 7] = [
     (5, |maker| {
         let base = maker.plan(100).text();
         limits::long_text(&base, &mut maker.rng)
@@ -74,6 +74,7 @@ pub const LIMITS: [(usize, Recipe); 6] = [
     (2, |maker| limits::deep(129, &mut maker.rng).text()),
     (5, |maker| limits::deep_text(&mut maker.rng)),
     (2, |maker| limits::counts(&mut maker.rng)),
+    (5, |maker| limits::edge_board(&mut maker.rng)),
 ];
 
 /// Lists all recipes, each as often as it weighs, in a random order.
@@ -111,7 +112,7 @@ fn twice_spoiled(maker: &mut Maker) -> Vec<u8> {
     plan.text()
 }
 
-/// Makes a fair plan on any board up to 13 by 13 and makes it unfair.
+/// Makes a fair plan on any board up to 19 by 19 and makes it unfair.
 fn spoiled_large(maker: &mut Maker) -> Vec<u8> {
     let mut plan = match maker.rng.below(4) {
         0 => limits::deep(2 * maker.rng.between(3, 63) + 1, &mut maker.rng),

@@ -1,6 +1,6 @@
 //! Section "The sheet": from text to a tree of moves and waits.
 
-use crate::board::{Board, Player};
+use crate::board::{Board, Player, LARGEST};
 use crate::fault::{self, Fault};
 use crate::verdict::Verdict;
 
@@ -101,7 +101,14 @@ fn header(line: &[u8]) -> Option<(Board, Player)> {
     if fields.len() != 4 || fields[0] != b"hex" {
         return None;
     }
-    let board = Board { columns: number(fields[1], 1, 13)?, rows: number(fields[2], 1, 13)? };
+    let most = if fault::on(Fault::Boards13) {
+        13
+    } else if fault::on(Fault::Boards20) {
+        20
+    } else {
+        LARGEST as u128
+    };
+    let board = Board { columns: number(fields[1], 1, most)?, rows: number(fields[2], 1, most)? };
     match fields[3] {
         b"D" => Some((board, Player::D)),
         b"A" => Some((board, Player::A)),
@@ -112,7 +119,8 @@ fn header(line: &[u8]) -> Option<(Board, Player)> {
 /// Reads a cell, a lower-case letter and a number 1 to 99, as column and row.
 fn cell(field: &[u8]) -> Option<(usize, usize)> {
     let (&letter, digits) = field.split_first()?;
-    if !letter.is_ascii_lowercase() {
+    let last = if fault::on(Fault::LettersToS) { b's' } else { b'z' };
+    if !(b'a'..=last).contains(&letter) {
         return None;
     }
     Some((usize::from(letter - b'a') + 1, number(digits, 1, 99)?))

@@ -1,5 +1,6 @@
 //! Sheets of known kinds: bridges, edge templates, ladders, pairings and free trees.
 
+use crate::board::LARGEST;
 use crate::plan::{leaf, pair, step, Plan, Spot, Step, NONE};
 use crate::rng::Rng;
 
@@ -154,7 +155,11 @@ pub fn one_row(columns: i32, rng: &mut Rng) -> Plan {
 /// Puts two plans side by side, so that D wins as second: either plan when the other is touched.
 pub fn beside(one: Plan, other: Plan) -> Option<Plan> {
     let columns = one.columns + other.columns;
-    if columns > 13 || one.rows != other.rows || one.root.spot == NONE || other.root.spot == NONE {
+    if columns > LARGEST as i32
+        || one.rows != other.rows
+        || one.root.spot == NONE
+        || other.root.spot == NONE
+    {
         return None;
     }
     let right = other.widened(columns, one.columns);

@@ -39,12 +39,12 @@ fn won_boards() {
 fn pairings() {
     let mut rng = Rng::new(6);
     for rows in 1..=4 {
-        for columns in rows + 1..=13 {
+        for columns in rows + 1..=19 {
             let plan = templates::pairing(columns, rows, &mut rng);
             assert!(accepted(&plan) && accepted(&plan.transposed()), "{columns} by {rows}");
         }
     }
-    assert_eq!(verdict(&templates::pairing(13, 12, &mut rng).text()), 12);
+    assert_eq!(verdict(&templates::pairing(19, 18, &mut rng).text()), 12);
 }
 
 /// Grown, deepened, idle and slow plans stay accepted.

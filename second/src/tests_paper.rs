@@ -1,14 +1,18 @@
 //! The samples of the paper and the readings of its open places.
 
+use crate::answering::Game;
 use crate::board::{Board, Player};
 use crate::entries::{judge, outcome, play, Judged, Listed, Played, WORKSPACE};
 use crate::joining::joins;
 use crate::replies;
 use crate::requests::{Ask, Request};
+use crate::sheet;
 use crate::verdict::Verdict;
 use std::io::Cursor;
 
 const P1: &str = "hex 2 2 D / m b1 1 / w 2 / m a2 0 / m b2 0";
+/// P1 in the corner of 19 by 2.
+const WIDE: &str = "hex 19 2 D / m b1 1 / w 2 / m a2 0 / m b2 0";
 const P6: &str = "hex 1 1 D / m a1 0";
 const P8: &str =
     "hex 3 2 D / m - 3 / w 2 / m b1 0 / m c1 0 / w 2 / m a2 0 / m b2 0 / w 2 / m a1 0 / m c2 0";
@@ -383,4 +387,34 @@ fn request_lines() {
     assert_eq!(answered(cells(400).as_bytes()), "1\t0\t0\t0\t0\t0\t0\n");
     assert_eq!(answered(cells(401).as_bytes()), "request\n");
     assert_eq!(answered(b"outcome\t9000\t0\t1000\t4294967295\n"), "3\t1\t0\t0\t0\n");
+}
+
+/// Follow-up C-17: boards to 19 by 19, columns a to s, cells to 361.
+#[test]
+fn boards_to_nineteen() {
+    for (columns, rows, wanted) in [(19, 1, 0), (14, 1, 0), (20, 1, 3), (21, 1, 3), (1, 20, 3)] {
+        assert_eq!(
+            sample(&format!("hex {columns} {rows} D / m a1 0"))[0],
+            wanted,
+            "{columns} by {rows}"
+        );
+    }
+    assert_eq!(counts("hex 1 19 A / m a19 0"), (1, 0, 1));
+    assert_eq!(counts("hex 19 1 D / m s1 0"), (1, 0, 1));
+    assert_eq!(sample("hex 19 1 D / m t1 0"), [5, 2, 0, 0]);
+    assert_eq!(sample("hex 1 19 A / m a20 0"), [5, 2, 0, 0]);
+    assert_eq!(sample("hex 19 19 D / m s19 0"), [13, 0, 0, 0]);
+    assert_eq!(sample("hex 19 19 D / m t19 0"), [5, 2, 0, 0]);
+    assert_eq!(sample("hex 19 19 D / m s20 0"), [5, 2, 0, 0]);
+    assert_eq!(sample("hex 19 19 D / m s100 0"), [4, 2, 0, 0]);
+    assert_eq!(sample("hex 19 19 D / m { 0"), [4, 2, 0, 0]);
+    assert_eq!(listed("hex 19 19 D / m s19 1 / w 2 / m a1 0 / m b1 0", 1, 2), (0, vec![2, 361]));
+    assert_eq!(played(WIDE, &[38]).1, vec![20]);
+    assert_eq!(refused(WIDE, &[39]), (16, 1, false));
+    let tall = sheet::read(&text("hex 19 19 D / m - 1 / w 2 / m a1 0 / m b1 0")).expect("a sheet");
+    assert_eq!((tall.board.size(), tall.board.number(19, 19)), (361, 361));
+    let mut game = Game::start(&tall);
+    assert_eq!((game.refusal(361), game.refusal(362)), (None, Some(Verdict::NoSuchCell)));
+    game.answer(361);
+    assert_eq!(game.stones(), (&[1][..], &[361][..]));
 }

@@ -1,91 +1,98 @@
--- One turn of growing after another: which rows are grown, and whether one of them is another than before.
-use mathlib.Core.Path.{_≡_, refl, sym, ap, _∙_}
-use mathlib.Core.Bool.{Bool, true, false, true≢false}
+-- The rows settled one after another: the first of them take nothing in.
+use mathlib.Core.Path.{_≡_, sym, ap, subst, _∙_}
 use mathlib.Core.List.{List}
-use Prim.Native.Nat.{ℕ, _+_, _-_, _^_, _<_, _≤_}
-use mathlib.Core.Logic.{_⊎_, ⊎-elim}
+use Prim.Native.Nat.{ℕ, zero, suc, _+_, _-_, _^_, _<_, _≤_}
 use native.Mathlib.Decide.{ℕ-discrete}
-use native.Mathlib.Numerals.{add-one}
+use native.Mathlib.Nat.{le-refl}
+use native.Mathlib.Numerals.{add-one, sub-one}
 use native.Mathlib.Omega.{arith}
 use lib.ListN.{length, getD, set, length-set}
-use lib.Seq.{getD-set-same, getD-set-other, set-getD}
-use Rattle.cells.specs.Rows.{fill}
-use Rattle.cells.specs.Growing.{grownRow, newRow, Words, GrownTo}
-use Rattle.cells.proofs.Fill.{fill-none, fill-below, fill-above, fill-more, fill-skip}
-use Rattle.cells.proofs.Grown.{new-row}
+use lib.Seq.{getD-set-same, getD-set-other}
+use Rattle.cells.specs.Cells.{digit}
+use Rattle.cells.specs.Rows.{In}
+use Rattle.cells.specs.Growing.{grownRow, Words, Linked, own, Framed, Closure, room}
+use Rattle.cells.proofs.Grown.{grownAt, at-le, at-keeps, at-linked, closed, linked-through}
+use Rattle.cells.proofs.Room.{room-less}
 
--- one of the first i rows is another
-pub record Another (a words : List ℕ) (i : ℕ) : Type 0 where
-  pub at : ℕ
-  pub below : at < i
-  pub other : ¬ (getD a at 0 ≡ getD words at 0)
-
-pub record GrowingTo (s a : List ℕ) (i : ℕ) (words : List ℕ) (more : Bool) : Type 0 where
-  pub from : 1 ≤ i
-  pub long : length a ≡ 21
+-- the words have grown from a inside s, and the rows above the given one take nothing in
+pub record Settled (s a : List ℕ) (row : ℕ) (words : List ℕ) : Type 0 where
   pub kept : Words words
-  pub rows-are : words ≡ fill (newRow s a) i a
-  pub stopped : more ≡ false → a ≡ words
-  pub goes-on : more ≡ true → Another a words i
+  pub sound : (c k : ℕ) → In words c k → Linked s a c k
+  pub holds : (c k : ℕ) → In a c k → In words c k
+  pub settled : (k : ℕ) → suc k < row → grownAt s words k ≡ getD words (suc k) 0
 
-pub growing-none : (s : List ℕ) {a : List ℕ} → Words a → GrowingTo s a 1 a false
-growing-none s w = record { from = omega arith; long = w .long; kept = w; rows-are = fill-skip _ 0 _ _ (fill-none _ _) refl; stopped = λ _. refl; goes-on = λ e. absurd (true≢false (sym e)) }
+pub settled-none : (s : List ℕ) {a : List ℕ} → Words a → Settled s a 1 a
+settled-none s w = record { kept = w; sound = λ c k i. own i; holds = λ c k i. i; settled = λ k h. absurd (omega (arith, h)) }
 
--- the word of the next row, as the code makes it
-next-word : {s a words : List ℕ} {i : ℕ} {more : Bool} {word : ℕ} → GrowingTo s a i words more → i < 20
-    → word ≡ grownRow (getD s i 0) (getD words (i - 1) 0) (getD words i 0) (getD words (i + 1) 0) → word ≡ newRow s a i
-next-word {s} {a} {words} {i} g h e =
-    let row : (k : ℕ) → getD words k 0 ≡ getD (fill (newRow s a) i a) k 0 = λ k. ap (λ (l : List ℕ). getD l k 0) (g .rows-are) in
-    let up : getD words (i - 1) 0 ≡ newRow s a (i - 1) = row (i - 1) ∙ fill-below (newRow s a) i a (i - 1) (omega (arith, g .from)) (omega (arith, g .long)) in
-    let here : getD words i 0 ≡ getD a i 0 = row i ∙ fill-above (newRow s a) i a i (omega arith) in
-    let down : getD words (i + 1) 0 ≡ getD a (i + 1) 0 = row (i + 1) ∙ fill-above (newRow s a) i a (i + 1) (omega arith) in
-    e ∙ rw (up, here, down) (sym (new-row s a i (g .from)))
-
--- a row more: its word is another, or as it was
-pub growing-more : {s a words : List ℕ} {i : ℕ} {more more′ : Bool} {word : ℕ} → GrowingTo s a i words more → i < 20 → word < 2 ^ 32
-    → word ≡ grownRow (getD s i 0) (getD words (i - 1) 0) (getD words i 0) (getD words (i + 1) 0)
-    → (¬ (word ≡ getD words i 0) × (more′ ≡ true)) ⊎ ((word ≡ getD words i 0) × (more′ ≡ more)) → GrowingTo s a (i + 1) (set words i word) more′
-growing-more {s} {a} {words} {i} {more} {more′} {word} g h w e came =
-    record {
-      from = omega arith;
-      long = g .long;
-      kept = record { long = length-set words i word ∙ g .kept .long; fits = fits };
-      rows-are = fill-more (newRow s a) i a words (g .rows-are) word (next-word g h e);
-      stopped = λ f. ⊎-elim (λ q. absurd (true≢false (sym (q .1) ∙ f))) (λ q. g .stopped (sym (q .1) ∙ f) ∙ unchanged (q .0)) came;
-      goes-on = λ t. ⊎-elim (λ q. here (q .0)) (λ q. before (g .goes-on (sym (q .1) ∙ t))) came;
-    }
+-- a row that takes nothing in
+pub settled-more : {s a words : List ℕ} {row : ℕ} → Settled s a row words → 1 ≤ row
+    → grownRow (getD s row 0) (getD words (row - 1) 0) (getD words row 0) (getD words (row + 1) 0) ≡ getD words row 0 → Settled s a (row + 1) words
+settled-more {s} {a} {words} {row} g h e =
+    record { kept = g .kept; sound = g .sound; holds = g .holds; settled = λ k l. go k l (ℕ-discrete (suc k) row) }
   where
-    fits : (k : ℕ) → getD (set words i word) k 0 < 2 ^ 32
-    fits k =
-        by-place (ℕ-discrete k i)
-      where
-        by-place : Dec (k ≡ i) → getD (set words i word) k 0 < 2 ^ 32
-        by-place (yes same) = rw (same, getD-set-same words i word 0 (omega (arith, g .kept .long))) w
-        by-place (no other) = rw (getD-set-other words i k word 0 other) (g .kept .fits k)
+    go : (k : ℕ) → suc k < row + 1 → Dec (suc k ≡ row) → grownAt s words k ≡ getD words (suc k) 0
+    go k l (yes same) = rw (sym same, add-one, sub-one) at e
+    go k l (no other) = g .settled k (omega (arith, l, other))
 
-    unchanged : word ≡ getD words i 0 → words ≡ set words i word
-    unchanged same = sym (ap (set words i) same ∙ set-getD words i 0)
+-- a row that takes cells in: the rows above the one before it are settled still
+module _ {s a words : List ℕ} {row : ℕ} (g : Settled s a (suc row) words) (few : row < 20) where
+  abbrev grown : List ℕ
+  grown = set words (suc row) (grownAt s words row)
 
-    here : ¬ (word ≡ getD words i 0) → Another a (set words i word) (i + 1)
-    here other =
-        let old : getD words i 0 ≡ getD a i 0 = ap (λ (l : List ℕ). getD l i 0) (g .rows-are) ∙ fill-above (newRow s a) i a i (omega arith) in
-        let new : getD (set words i word) i 0 ≡ word = getD-set-same words i word 0 (omega (arith, g .kept .long)) in
-        record { at = i; below = omega arith; other = λ same. other (sym new ∙ sym same ∙ sym old) }
+  here : getD grown (suc row) 0 ≡ grownAt s words row
+  here = getD-set-same words (suc row) (grownAt s words row) 0 (omega (arith, g .kept .long))
 
-    before : Another a words i → Another a (set words i word) (i + 1)
-    before o =
-        record {
-          at = o .at;
-          below = omega (arith, o .below);
-          other = λ same. o .other (same ∙ getD-set-other words i (o .at) word 0 (λ z. omega (arith, o .below)));
-        }
+  -- the row itself, or another
+  by-row : (k : ℕ) (P : ℕ → ℕ → Type 0) → (k ≡ suc row → P (suc row) (grownAt s words row)) → P k (getD words k 0) → P k (getD grown k 0)
+  by-row k P new old = go (ℕ-discrete k (suc row))
+    where
+      go : Dec (k ≡ suc row) → P k (getD grown k 0)
+      go (yes same) = rw (same, here) (new same)
+      go (no other) = rw (getD-set-other words (suc row) k (grownAt s words row) 0 other) old
 
--- all rows are grown
-pub growing-all : {s a words : List ℕ} {i : ℕ} {more : Bool} (rows : ℕ) → GrowingTo s a i words more → i ≡ rows + 1 → GrownTo rows s a words more
-growing-all {s} {a} {words} rows g e =
-    record {
-      words = g .kept;
-      rows-are = g .rows-are ∙ rw (e, add-one);
-      stopped = g .stopped;
-      goes-on = λ t same. let o = g .goes-on t in o .other (ap (λ (l : List ℕ). getD l (o .at) 0) same);
-    }
+  back : (rows row′ : ℕ) → Framed rows s → grownAt s words row < 2 ^ 32 → row′ ≤ row - 1 + 1 → Settled s a row′ grown
+  back rows row′ fr w h =
+      record {
+        kept = record { long = length-set words (suc row) (grownAt s words row) ∙ g .kept .long; fits = λ k. by-row k (λ (i x : ℕ). x < 2 ^ 32) (λ _. w) (g .kept .fits k) };
+        sound = λ c k. by-row k (λ (i x : ℕ). digit x c ≡ 1 → Linked s a c i) (λ _ e. linked-through (g .sound) (at-linked s words row rows fr c e)) (g .sound c k);
+        holds = λ c k i. by-row k (λ (i x : ℕ). digit x c ≡ 1) (λ same. at-keeps s words row c (g .holds c (suc row) (subst (In a c) same i))) (g .holds c k i);
+        settled = λ k l. same k (omega (arith, l, h));
+      }
+    where
+      other : (k : ℕ) → k ≤ row → getD grown k 0 ≡ getD words k 0
+      other k l = getD-set-other words (suc row) k (grownAt s words row) 0 (λ e. omega (arith, l, e))
+
+      same : (k : ℕ) → suc (suc k) ≤ row → grownAt s grown k ≡ getD grown (suc k) 0
+      same k l = rw (other k (omega arith), other (suc k) (omega arith), other (suc (suc k)) l) (g .settled k (omega arith))
+
+  less : grownAt s words row < 2 ^ 32 → ¬ (grownAt s words row ≡ getD words (suc row) 0) → room grown < room words
+  less w other =
+      room-less words grown (sym (length-set words (suc row) (grownAt s words row)))
+      (λ k. by-row k (λ (i x : ℕ). getD words i 0 ≤ x) (λ _. at-le s words row) (le-refl (getD words k 0)))
+      (λ k. by-row k (λ (i x : ℕ). x < 2 ^ 32) (λ _. w) (g .kept .fits k))
+      (λ e. other (sym here ∙ sym (ap (λ (l : List ℕ). getD l (suc row) 0) e)))
+
+-- the word of a row as the code makes it
+word-is : (s words : List ℕ) {word : ℕ} (row : ℕ) → word ≡ grownRow (getD s (suc row) 0) (getD words (suc row - 1) 0) (getD words (suc row) 0) (getD words (suc row + 1) 0)
+    → word ≡ grownAt s words row
+word-is s words row e = rw (add-one, sub-one) at e
+
+-- a row that takes cells in: then the rows above the one before it are settled, and there is less room
+module _ {s a words : List ℕ} {word : ℕ} (fits : word < 2 ^ 32) where
+  pub settled-back : (rows row row′ : ℕ) → Settled s a row words → 1 ≤ row → row < 21 → Framed rows s
+      → word ≡ grownRow (getD s row 0) (getD words (row - 1) 0) (getD words row 0) (getD words (row + 1) 0) → row′ ≤ row - 2 + 1 → Settled s a row′ (set words row word)
+  settled-back rows zero row′ g h few fr e l = absurd (omega arith)
+  settled-back rows (suc row) row′ g h few fr e l =
+      let i = word-is s words row e in
+      rw i (back g (omega arith) rows row′ fr (subst (λ (x : ℕ). x < 2 ^ 32) i fits) (omega arith))
+
+  pub settled-room : (row : ℕ) → Settled s a row words → 1 ≤ row → row < 21
+      → word ≡ grownRow (getD s row 0) (getD words (row - 1) 0) (getD words row 0) (getD words (row + 1) 0) → ¬ (word ≡ getD words row 0) → room (set words row word) < room words
+  settled-room zero g h few e other = absurd (omega arith)
+  settled-room (suc row) g h few e other =
+      let i = word-is s words row e in
+      rw i (less g (omega arith) (subst (λ (x : ℕ). x < 2 ^ 32) i fits) (λ same. other (i ∙ same)))
+
+-- all rows are settled
+pub settled-all : {s a words : List ℕ} {row : ℕ} (rows : ℕ) → Settled s a row words → rows < row → Framed rows s → Closure s a words
+settled-all {s} {a} {words} rows g h fr = record { sound = g .sound; whole = closed rows s a words fr (λ k l. g .settled k (omega (arith, l, h))) (g .holds) }

@@ -1,11 +1,10 @@
--- How the joining test grows the reached set of places, row by row, until it stops.
+-- How the joining test grows the reached set of places, a row at a time, until no row takes anything in.
 use mathlib.Core.Path.{_≡_}
-use mathlib.Core.Bool.{Bool, true, false}
 use mathlib.Core.List.{List, [], _∷_}
-use Prim.Native.Nat.{ℕ, zero, suc, _+_, _-_, _*_, _/_, _%_, _^_, _<_, _≤_}
+use Prim.Native.Nat.{ℕ, suc, _+_, _-_, _*_, _/_, _%_, _^_, _<_, _≤_}
 use lib.Bits.{bitAnd, bitOr}
 use lib.ListN.{length, getD}
-use Rattle.cells.specs.Rows.{In, fill}
+use Rattle.cells.specs.Rows.{In}
 
 -- the places in a row that touch one of the row h itself, of the row u above or of the row d below
 unfoldable pub around : ℕ → ℕ → ℕ → ℕ
@@ -16,26 +15,10 @@ unfoldable pub grownRow : ℕ → ℕ → ℕ → ℕ → ℕ
 unfolding around
 grownRow s u h d = bitOr h (bitAnd s (around u h d))
 
--- row by row downwards: each row touches the new row above it
-abbrev pub newRow : List ℕ → List ℕ → ℕ → ℕ
-newRow s a zero = getD a 0 0
-newRow s a (suc k) = grownRow (getD s (suc k) 0) (newRow s a k) (getD a (suc k) 0) (getD a (suc (suc k)) 0)
-
--- the first rows of a with their neighbours among the cells s
-abbrev pub grown : ℕ → List ℕ → List ℕ → List ℕ
-grown rows s a = fill (newRow s a) (suc rows) a
-
 -- a set's 21 words, of 32 bits each
 pub record Words (a : List ℕ) : Type 0 where
   pub long : length a ≡ 21
   pub fits : (k : ℕ) → getD a k 0 < 2 ^ 32
-
--- a set that has grown, and whether it is another than before
-pub record GrownTo (rows : ℕ) (s a a′ : List ℕ) (more : Bool) : Type 0 where
-  pub words : Words a′
-  pub rows-are : a′ ≡ grown rows s a
-  pub stopped : more ≡ false → a ≡ a′
-  pub goes-on : more ≡ true → ¬ (a ≡ a′)
 
 -- the six neighbours of a place (column, row), the second place
 pub data Near : ℕ → ℕ → ℕ → ℕ → Type 0 where

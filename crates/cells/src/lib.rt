@@ -12,7 +12,7 @@ ghost use Rattle.rules.specs.Joining.{joined};
 ghost use Rattle.rules.specs.declared.Board as declared;
 ghost use Rattle.cells.specs.Cells.{held, Fits, Listed};
 ghost use Rattle.cells.specs.Rows.{mergedRow, mergedRows, PlaceOf, Block, Clipped, Side};
-ghost use Rattle.cells.specs.Growing.{grownRow, Words, GrownTo, Framed, Closure};
+ghost use Rattle.cells.specs.Growing.{grownRow, Framed, Closure};
 use rules::Board;
 use rules::Player;
 
@@ -94,34 +94,26 @@ fn grow_row(cells: u32, up: u32, here: u32, down: u32) -> u32
     here | (cells & (((here << 1) | (here >> 1)) | ((up | (up >> 1)) | (down | (down << 1)))))
 }
 
-// Adds to the words of a set its neighbours among the cells, row by row downwards, so that what a row takes in is taken on by the next.
-// Tells whether there were any.
-fn grow(cells: Cells, words: &mut [u32], rows: usize) -> bool
-    requires { ⌜ (rows ≤ 19) × Words (now words) ⌝ }
-    ensures { λ r. ⌜ GrownTo rows (cells .rows) (now (words .entry)) (now (words .exit)) r ⌝ }
-{
-    let mut more = false;
-    for i in 1..rows + 1 {
-        let word = grow_row(cells.rows[i], words[i - 1], words[i], words[i + 1]);
-        if word != words[i] {
-            more = true;
-        }
-        words[i] = word;
-    }
-    more
-}
-
-// All that a set grows to inside the cells, which stand in the first rows: it grows until it stops growing.
+// All that a set grows to inside the cells, which stand in the first rows. The rows are settled from the top; where one takes cells in,
+// the row above it is looked at again.
 fn closure(cells: Cells, a: Cells, rows: usize) -> Cells
     requires { ⌜ (rows ≤ 19) × Framed rows (cells .rows) ⌝ }
     ensures { λ r. ⌜ Closure (cells .rows) (a .rows) (r .rows) ⌝ }
 {
     let mut words = a.rows;
-    loop {
-        if !grow(cells, &mut words, rows) {
-            return Cells { rows: words };
+    let mut row: usize = 1;
+    while row <= rows {
+        let word = grow_row(cells.rows[row], words[row - 1], words[row], words[row + 1]);
+        if word == words[row] {
+            row += 1;
+        } else {
+            words[row] = word;
+            if row > 1 {
+                row -= 1;
+            }
         }
     }
+    Cells { rows: words }
 }
 
 // The cells of the player's first side.

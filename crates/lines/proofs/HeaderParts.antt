@@ -2,7 +2,7 @@
 use mathlib.Core.Path.{_≡_, _∙_}
 use Rattle.rules.specs.Sizes.{largest}
 use Rattle.rules.specs.Text.{Bytes, Reader, bind, _>>=_, _>>_, give, word, tab, numberIn}
-use Rattle.rules.specs.Lines.{Header, player, headerLine}
+use Rattle.rules.specs.Lines.{Header, player, headerUpTo, headerLine}
 use Rattle.rules.specs.declared.Board.{Board}
 use Rattle.lines.specs.Parts.{size, board, closed}
 use Rattle.lines.proofs.Steps.{regroup, same-after, closes}
@@ -26,7 +26,7 @@ board-parts f t =
     (λ _ u. same-after (numberIn 1 largest u) _ _ (λ c v. regroup (size v) _ _ ∙ regroup (tab v) _ _))
 
 pub header-parts : (t : Bytes) → headerParts t ≡ headerLine t
-unfolding headerParts headerLine
+unfolding headerParts headerUpTo
 header-parts t =
     same-after (word "hex" t) _ _
     (λ _ u. board-parts _ u ∙ same-after (tab u) _ _

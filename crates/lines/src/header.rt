@@ -10,8 +10,8 @@ use crate::numbers::number_in;
 use rules::Board;
 use rules::Player;
 
-// A board has 1 to 13 columns and 1 to 13 rows.
-const LARGEST: u32 = 13;
+// A board has 1 to 19 columns and 1 to 19 rows.
+const LARGEST: u32 = 19;
 
 // The word that a sheet begins with.
 fn hex_at(s: &[u8], at: usize) -> Next

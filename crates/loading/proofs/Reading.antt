@@ -9,9 +9,9 @@ use borrow.Author.Tests.{lt-ltb, le-ltb}
 use Rattle.rules.specs.Sizes.{mostBytes, mostDepth, leastWorkspace}
 use Rattle.rules.specs.Text.{Bytes}
 use Rattle.rules.specs.Lines.{Header, headerLine}
-use Rattle.rules.specs.Reading.{Result, refused, readBody, headed, readSheet}
+use Rattle.rules.specs.Reading.{Result, refused, readBody, headed, readSheetUpTo, readSheet}
 use Rattle.rules.specs.Tree.{Sheet}
-use Rattle.rules.specs.Entries.{_>>=_, refuseIf, readText}
+use Rattle.rules.specs.Entries.{_>>=_, refuseIf, readTextUpTo, readText}
 use Rattle.rules.specs.declared.Board.{Board}
 use Rattle.rules.specs.declared.Player.{Player}
 use Rattle.rules.specs.declared.LineKind.the-variants.{First}
@@ -44,12 +44,12 @@ pub header-body : (t : Bytes) (h : Header) (end : ℕ) → Reads t 0 headerLine 
 header-body t h end r = ap (λ (z : Bytes). some (h, z)) (part-from t end) ∙ r .same
 
 pub text-long : (t : Bytes) (table : List ℕ) → mostBytes < length t → SheetKept t table (SheetRead.Refused LongText) table
-unfolding readText refuseIf _>>=_ loaded
+unfolding readTextUpTo refuseIf _>>=_ loaded
 text-long t table h = record { reply-is = rw (lt-ltb mostBytes (length t) h); table-is = rw (lt-ltb mostBytes (length t) h) }
 
 module _ (t : Bytes) (short : length t ≤ mostBytes) where
   text-reads : readText t ≡ readSheet t
-  unfolding readText refuseIf _>>=_
+  unfolding readTextUpTo refuseIf _>>=_
   text-reads = rw (le-ltb mostBytes (length t) short)
 
   table-loaded : (table : List ℕ) → loaded t table ≡ loadedFrom (headerLine t) table
@@ -57,12 +57,12 @@ module _ (t : Bytes) (short : length t ≤ mostBytes) where
   table-loaded table = rw (le-ltb mostBytes (length t) short)
 
   pub text-headless : (table : List ℕ) → none ≡ headerLine t → SheetKept t table (SheetRead.Refused BadHeader) table
-  unfolding readSheet headed
+  unfolding readSheetUpTo headed
   text-headless table e = record { reply-is = text-reads ∙ rw (sym e); table-is = ap (λ (o : Option (Header × Bytes)). loadedFrom o table) e ∙ sym (table-loaded table) }
 
   module _ (b : Board) (p : Player) (body : Bytes) (e : some (record { board = b; player = p }, body) ≡ headerLine t) where
     sheet-body : readSheet t ≡ readBody (record { board = b; player = p }) body
-    unfolding readSheet headed
+    unfolding readSheetUpTo headed
     sheet-body = rw (sym e)
 
     header-fits : Fits b

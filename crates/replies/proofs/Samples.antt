@@ -4,7 +4,7 @@ use mathlib.Core.Path.{_≡_, refl}
 use Prim.Native.Nat.{ℕ}
 use mathlib.Core.List.{[], _∷_}
 use Rattle.rules.specs.Words.{oneIf}
-use Rattle.rules.specs.Entries.{_>>=_, refuseIf, readText, read, accepted, judged, judge, refusedPlay, playOn, play, named, outcome}
+use Rattle.rules.specs.Entries.{_>>=_, refuseIf, readTextUpTo, readUpTo, accepted, judged, judge, refusedPlay, playOn, play, named, outcome}
 use Rattle.rules.specs.Samples.{byteOf, sheet}
 use Rattle.rules.specs.Decimal.{leading, decimal}
 use Rattle.report.specs.Line.{fields, lineOf, reportLine, judgeLine}
@@ -18,5 +18,5 @@ asking : Ask → (count room : ℕ) → Request
 asking ask count room = record { ask = ask; work = 0; bytes = 0; room = room; count = count }
 
 replies : (replyOf (asking Ask.Judge 2 0) (0 ∷ 0 ∷ []) [] ≡ sheet "1 0 0 0 0 0 0/") × (replyOf (asking Ask.Play 4 2) (0 ∷ 0 ∷ 2 ∷ 10 ∷ []) [] ≡ sheet "1 0 0 0 0 0 0/") × (replyOf (asking Ask.Outcome 4 0) (0 ∷ 0 ∷ 0 ∷ 7 ∷ []) [] ≡ sheet "1 0 0 0 0/")
-unfolding oneIf _>>=_ refuseIf read readText accepted judged judge refusedPlay playOn play named outcome byteOf sheet leading decimal fields lineOf reportLine judgeLine playLine outcomeLine replyOf asking
+unfolding oneIf _>>=_ refuseIf readUpTo readTextUpTo accepted judged judge refusedPlay playOn play named outcome byteOf sheet leading decimal fields lineOf reportLine judgeLine playLine outcomeLine replyOf asking
 replies = (refl, refl, refl)

@@ -18,7 +18,7 @@ use Rattle.rules.specs.Tree.{Wait, Move, Sheet, everyMove, everyWait}
 use Rattle.rules.specs.Reading.{Result, refused, got, readSheet}
 use Rattle.rules.specs.Fair.{Fault, inWaits, holding, notApart, notElusive, firstNotApart, firstNotElusive}
 use Rattle.rules.specs.Outcomes.{outcomes, outcomeCount}
-use Rattle.rules.specs.Entries.{_>>=_, refuseIf, refuseFault, refuseUnjoined, readText, read, fair, satisfying, accepted, judged, judge}
+use Rattle.rules.specs.Entries.{_>>=_, refuseIf, refuseFault, refuseUnjoined, readTextUpTo, readUpTo, read, fair, satisfying, accepted, judged, judge}
 use Rattle.rules.specs.Plain.{IsApart, IsElusive, AllApart, AllElusive, AllJoin, WithinSizes, IsRead, IsFair, IsSheet, Given, as-accepted, as-small, as-long, as-unread, as-not-apart, as-not-elusive, as-too-many, as-not-joined}
 use Rattle.rules.specs.declared.Board.{Board}
 use Rattle.rules.specs.declared.Player.{Player}
@@ -145,16 +145,16 @@ module _ (b : Board) (p : Player) where
 -- The reply, stage by stage
 module _ (w : ℕ) (t : Bytes) where
   reply-small : w < leastWorkspace → judge w t ≡ SmallWorkspace
-  unfolding judge judged accepted read readText refuseIf _>>=_
+  unfolding judge judged accepted readUpTo readTextUpTo refuseIf _>>=_
   reply-small h = rw (lt-ltb w leastWorkspace h)
 
   reply-long : leastWorkspace ≤ w → mostBytes < length t → judge w t ≡ LongText
-  unfolding judge judged accepted read readText refuseIf _>>=_
+  unfolding judge judged accepted readUpTo readTextUpTo refuseIf _>>=_
   reply-long h k = rw (le-ltb w leastWorkspace h, lt-ltb mostBytes (length t) k)
 
   -- within the sizes the reading's reply, or what the checks of a sheet come to
   pub accepted-read : WithinSizes w t → accepted w t ≡ (readSheet t >>= λ s. fair s >>= satisfying)
-  unfolding accepted read readText refuseIf _>>=_
+  unfolding accepted readUpTo readTextUpTo refuseIf _>>=_
   accepted-read z = rw (le-ltb w leastWorkspace (z .enough), le-ltb mostBytes (length t) (z .short))
 
   reply-unread : (v : Verdict) → WithinSizes w t → readSheet t ≡ refused v → judge w t ≡ v
@@ -294,7 +294,7 @@ walked-all b p n os _ (all h) u e = h
 walked-all b p n os _ (first i k not-so so) u e = absurd (not-refused e)
 
 fair→ : (w : ℕ) (t : Bytes) (s : Sheet) → (read w t >>= fair) ≡ got s → IsFair w t s
-unfolding read readText fair
+unfolding readUpTo readTextUpTo fair
 fair→ w t s e =
     let a = then-got (read w t) fair s e in
     let b = then-got (refuseIf (ltb w leastWorkspace) SmallWorkspace) _ (a .0) (a .1) in
@@ -315,7 +315,7 @@ fair→ w t s e =
     }
 
 →fair : (w : ℕ) (t : Bytes) (s : Sheet) → IsFair w t s → (read w t >>= fair) ≡ got s
-unfolding read readText refuseIf _>>=_
+unfolding readUpTo readTextUpTo refuseIf _>>=_
 →fair w t s h =
     rw (le-ltb w leastWorkspace (h .read .sizes .enough), le-ltb mostBytes (length t) (h .read .sizes .short), reads-exactly t s .1 (h .read .spells))
     (fair-passed s (apart-none s (h .apart)) (elusive-none s (h .elusive)) (h .few))

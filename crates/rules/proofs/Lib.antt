@@ -21,6 +21,7 @@ pub mod Answering
 pub mod EachOutcome
 pub mod Cover
 pub mod GoesOn
+pub mod UpTo
 pub mod OneReply
 pub mod Small
 pub mod OneMove

@@ -10,14 +10,14 @@ use Prim.Native.String as S
 use lib.Dec.{T, eqb, eqb→eq, leb, leb→le}
 use borrow.Author.Tests.{le-leb}
 use native.Mathlib.Omega.{arith}
-use Rattle.rules.specs.Sizes.{largest, highestRow, mostUnder}
+use Rattle.rules.specs.Sizes.{highestRow, mostUnder}
 use Rattle.rules.specs.Board.{cellAt, isCell, columnOf, rowOf}
 use Rattle.rules.specs.Text.{Bytes, Reader, bind, _>>_, _orElse_, give, guard, anyByte, byte, word, tab, lineFeed, isDigit, digits, number, numberIn}
-use Rattle.rules.specs.Lines.{Place, Line, Header, player, letter, place, moveLine, dashLine, waitLine, headerLine, readerOf}
+use Rattle.rules.specs.Lines.{Place, Line, Header, player, letter, place, moveLine, dashLine, waitLine, headerUpTo, readerOf}
 use Rattle.rules.specs.Decimal.{decimal}
 use Rattle.rules.specs.Written.{printed, tabbed, aLine, writtenPlayer, writtenHeader, writtenPlace, placeOf, writtenMove, writtenWait}
 use Rattle.rules.specs.Reading.{within, cellOf}
-use Rattle.rules.specs.Unread.{BoardSize, Nameable, IsLine, of-move, of-first, of-dash, of-wait}
+use Rattle.rules.specs.Unread.{BoardUpTo, BoardSize, Nameable, IsLine, of-move, of-first, of-dash, of-wait}
 use Rattle.rules.specs.declared.Board.{Board}
 use Rattle.rules.specs.declared.LineKind.{LineKind}
 use Rattle.rules.specs.declared.LineKind.the-variants as K
@@ -85,18 +85,18 @@ player-is t y e =
     (λ a. word-then "A" t _ a λ u p q. p ∙ ap (λ (z : Player × Bytes). writtenPlayer (z .0) ++ z .1) (some-inj q))
 
 -- line 1
-pub header-is : (t : Bytes) (y : Header × Bytes) → headerLine t ≡ some y → (t ≡ writtenHeader (y .0 .board) (y .0 .player) ++ y .1) × BoardSize (y .0 .board)
-unfolding headerLine writtenHeader tab lineFeed printed aLine tabbed give
-header-is t y e =
+pub header-is : {most : ℕ} (t : Bytes) (y : Header × Bytes) → headerUpTo most t ≡ some y → (t ≡ writtenHeader (y .0 .board) (y .0 .player) ++ y .1) × BoardUpTo most (y .0 .board)
+unfolding headerUpTo writtenHeader tab lineFeed printed aLine tabbed give
+header-is {most} t y e =
     word-then "hex" t _ e λ u₁ p₁ e₁.
     byte-then 9 u₁ _ e₁ λ u₂ p₂ e₂.
-    number-then 1 largest u₂ _ e₂ λ c u₃ p₃ c₁ c₂ e₃.
+    number-then 1 most u₂ _ e₂ λ c u₃ p₃ c₁ c₂ e₃.
     byte-then 9 u₃ _ e₃ λ u₄ p₄ e₄.
-    number-then 1 largest u₄ _ e₄ λ r u₅ p₅ r₁ r₂ e₅.
+    number-then 1 most u₄ _ e₄ λ r u₅ p₅ r₁ r₂ e₅.
     byte-then 9 u₅ _ e₅ λ u₆ p₆ e₆.
     step-then player u₆ _ e₆ λ p u₇ p₇ e₇.
     byte-then 10 u₇ _ e₇ λ u₈ p₈ e₈.
-    subst (λ (z : Header × Bytes). (t ≡ writtenHeader (z .0 .board) (z .0 .player) ++ z .1) × BoardSize (z .0 .board)) (some-inj e₈)
+    subst (λ (z : Header × Bytes). (t ≡ writtenHeader (z .0 .board) (z .0 .player) ++ z .1) × BoardUpTo most (z .0 .board)) (some-inj e₈)
     (rw (p₁, p₂, p₃, p₄, p₅, p₆, player-is u₆ (p, u₇) p₇, p₈) (simp append-assoc), record { columns = (c₁, c₂); rows = (r₁, r₂) })
 
 letter-is : (t : Bytes) (y : ℕ × Bytes) → letter t ≡ some y → (t ≡ (96 + y .0) ∷ y .1) × (1 ≤ y .0) × (y .0 ≤ 26)
@@ -218,12 +218,12 @@ unfolding player writtenPlayer printed word byte anyByte guard bind give _orElse
 player-back D u = refl
 player-back A u = refl
 
-pub header-back : (b : Board) (p : Player) (u : Bytes) → BoardSize b → headerLine (writtenHeader b p ++ u) ≡ some (record { board = b; player = p }, u)
-unfolding headerLine writtenHeader tabbedOn tab lineFeed byte word anyByte guard bind printed give digits isDigit
-header-back b p u z =
-    ap headerLine (line-on (printed "hex") (decimal (b .columns) ∷ decimal (b .rows) ∷ writtenPlayer p ∷ []) u)
-    ∙ step-back (number-back 1 largest (b .columns) _ (z .columns .0) (z .columns .1) refl) _
-    (step-back (number-back 1 largest (b .rows) _ (z .rows .0) (z .rows .1) refl) _ (step-back (player-back p _) _ refl))
+pub header-back : {most : ℕ} (b : Board) (p : Player) (u : Bytes) → BoardUpTo most b → headerUpTo most (writtenHeader b p ++ u) ≡ some (record { board = b; player = p }, u)
+unfolding headerUpTo writtenHeader tabbedOn tab lineFeed byte word anyByte guard bind printed give digits isDigit
+header-back {most} b p u z =
+    ap (headerUpTo most) (line-on (printed "hex") (decimal (b .columns) ∷ decimal (b .rows) ∷ writtenPlayer p ∷ []) u)
+    ∙ step-back (number-back 1 most (b .columns) _ (z .columns .0) (z .columns .1) refl) _
+    (step-back (number-back 1 most (b .rows) _ (z .rows .0) (z .rows .1) refl) _ (step-back (player-back p _) _ refl))
 
 place-back : (p : Place) (u : Bytes) → Nameable p → digits u ≡ [] → place (writtenPlace (some p) ++ u) ≡ some (p, u)
 unfolding place letter writtenPlace anyByte guard bind give

@@ -1,17 +1,24 @@
 -- What meets the hypotheses of the theorems: the sample P1, and a game on it; P3, with a wait of one move.
-use mathlib.Core.Path.{refl}
+use mathlib.Core.Path.{refl, sym, subst, _∙_}
+use Prim.Native.Nat.{_<_}
+use native.Mathlib.Omega.{arith}
 use mathlib.Core.List.{[], _∷_}
 use Rattle.rules.specs.Sizes.{leastWorkspace}
 use Rattle.rules.specs.Words.{at-head}
 use Rattle.rules.specs.Board.{smallest}
+use Rattle.rules.specs.Text.{Bytes}
+use Rattle.rules.specs.Lines.{Header}
 use Rattle.rules.specs.Tree.{noWaits, noMoves, move, everyWait, waitsOfWaits}
 use Rattle.rules.specs.Choice.{the-first, one-later}
 use Rattle.rules.specs.Answering.{start, answered, next, isEmpty}
 use Rattle.rules.specs.Plain.{IsSheet, WellRead, IsElusive}
 use Rattle.rules.specs.Promise.{Ruled, no-move, one-move, MovesToEmpty}
 use Rattle.rules.specs.Holder.{Chosen, no-round, round}
+use Rattle.rules.specs.UpTo.{NoSizeFrom, SameReplies}
 use Rattle.rules.specs.Samples.{sheet, P1, P3, p1, p3}
-use Rattle.rules.specs.Computed.{p1-accepted, p1-opens, p3-read}
+use Rattle.rules.specs.Computed.{p1-accepted, p1-opens, p1-header, p3-read}
+use Rattle.rules.proofs.Steps.{some-inj}
+use Rattle.rules.proofs.UpTo.{same-replies}
 use Rattle.rules.proofs.Written.{reads-exactly}
 use Rattle.rules.proofs.Given.{accepted-exactly}
 use Rattle.rules.proofs.Cover.{demand-3}
@@ -35,6 +42,17 @@ p1-chosen = round 3 (the-first (one-later (the-first tt))) (p1-opens .0) (p1-ope
 -- an opponent who moves to an empty cell until the sides are joined
 pub p1-opponent : MovesToEmpty p1 (λ g. smallest (p1 .board) (isEmpty p1 g))
 p1-opponent = demand-3 leastWorkspace (sheet P1) p1 p1-accepted .has-opponent
+
+-- P1's header has no size from 14 to 19, so it gets the reply that it got
+pub p1-small : NoSizeFrom 14 (sheet P1)
+p1-small =
+    record {
+      columns = λ x e. subst (λ (z : Header × Bytes). z .0 .board .columns < 14) (some-inj (sym p1-header ∙ e)) (omega arith);
+      rows = λ x e. subst (λ (z : Header × Bytes). z .0 .board .rows < 14) (some-inj (sym p1-header ∙ e)) (omega arith);
+    }
+
+pub p1-same : SameReplies 13 (sheet P1)
+p1-same = same-replies 13 (omega arith) (sheet P1) p1-small
 
 -- P3 is read, and the one move of its wait is its fault
 pub p3-faulty : IsElusive (p3 .board) (record { line = 3; moves = move 4 3 noWaits noMoves }) → ⊥

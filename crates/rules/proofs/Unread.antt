@@ -15,7 +15,7 @@ use Rattle.rules.specs.Text.{Bytes}
 use Rattle.rules.specs.Lines.{Line, Header, headerLine, readerOf, kindUnder}
 use Rattle.rules.specs.Tree.{Move, Sheet}
 use Rattle.rules.specs.Written.{printed, aLine, writtenMove, writtenWait}
-use Rattle.rules.specs.Reading.{Result, refused, got, Spot, Reading, go, give, within, cellOf, Node, nodeHere, nodeLine, inTurn, readMove, readWait, ended, readBody, headed, readSheet}
+use Rattle.rules.specs.Reading.{Result, refused, got, Spot, Reading, go, give, within, cellOf, Node, nodeHere, nodeLine, inTurn, readMove, readWait, ended, readBody, headed, readSheetUpTo, readSheet}
 use Rattle.rules.specs.Unread.{IsLine, of-move, of-first, of-dash, of-wait, Due, dueAfter, Begins, after-header, after-line, Unread, no-header, no-line, off-board, one-too-many, too-deep, text-ends, text-remains}
 use Rattle.rules.specs.Plain.{Spells}
 use Rattle.rules.specs.declared.Board.{Board}
@@ -305,7 +305,7 @@ got-of (got s) e = (s, refl)
 -- where a run from a beginning comes to something, the reading does
 begun-verdict : (t : Bytes) (b : Board) (n : ℕ) (ds : List Due) (left : Bytes) → Begins t b n ds left → (r : Option Verdict) → Runs b ds (spot left n) r
     → verdictOf (readSheet t) ≡ r
-unfolding readSheet headed
+unfolding readSheetUpTo headed
 begun-verdict t b n ds left a r q =
     let g = begun a in
     let h : Header = record { board = b; player = g .player } in
@@ -331,7 +331,7 @@ unread-refused : (t : Bytes) (v : Verdict) → Unread t v → readSheet t ≡ re
 unread-refused t _ (no-header h) = by-header (headerLine t) refl
   where
     by-header : (o : Option (Header × Bytes)) → headerLine t ≡ o → readSheet t ≡ refused BadHeader
-    by-header none e = unfold readSheet headed in rw e
+    by-header none e = unfold readSheetUpTo headed in rw e
     by-header (some y) e = let k = header-is t y e in absurd (h (y .0 .board) (y .0 .player) (y .1) (k .1) (k .0))
 unread-refused t _ (no-line b n d ds left a some-text few h) =
     line-refused a (next-is b d n left _ (sees-bad (may-begin b d n left some-text few) (none-read (d .kind) left h)))
@@ -343,7 +343,7 @@ unread-refused t _ (text-remains b n left a some-text) = rest-refused t b n left
 
 -- what a text comes to, after its header
 ends-of : (t : Bytes) (y : Header × Bytes) → headerLine t ≡ some y → Ends t (y .0 .board) (verdictOf (readSheet t))
-unfolding readSheet headed
+unfolding readSheetUpTo headed
 ends-of t y e =
     let k = header-is t y e in
     rw e (run-ends t (y .0 .board) (body-runs (y .0) (y .1)) (after-header (y .0 .player) (y .1) (k .1) (k .0)) refl (omega arith))
@@ -362,7 +362,7 @@ refused-unread t v e = by-header (headerLine t) refl
   where
     by-header : (o : Option (Header × Bytes)) → headerLine t ≡ o → Unread t v
     by-header none f =
-        let g : _≡_ {A = Result Sheet} (refused BadHeader) (refused v) = unfold readSheet headed in sym (ap headed f) ∙ e in
+        let g : _≡_ {A = Result Sheet} (refused BadHeader) (refused v) = unfold readSheetUpTo headed in sym (ap headed f) ∙ e in
         subst (Unread t) (refused-inj g) (no-header (λ b p left size h. none≢some (sym f ∙ ap headerLine h ∙ header-back b p left size)))
     by-header (some y) f = unfold verdictOf in ended-refused (ends-of t y f) (ap verdictOf e)
 
@@ -379,7 +379,7 @@ sheet-begins t s h = by-header (headerLine t) refl
 
     by-header : (o : Option (Header × Bytes)) → headerLine t ≡ o → (b : Board) × (n : ℕ) × Begins t b n [] []
     by-header none f =
-        let g : _≡_ {A = Result Sheet} (refused BadHeader) (got s) = unfold readSheet headed in sym (ap headed f) ∙ reads in
+        let g : _≡_ {A = Result Sheet} (refused BadHeader) (got s) = unfold readSheetUpTo headed in sym (ap headed f) ∙ reads in
         absurd (not-refused g)
     by-header (some y) f =
         let none-told : verdictOf (readSheet t) ≡ none = unfold verdictOf in ap verdictOf reads in

@@ -14,7 +14,7 @@ use Rattle.rules.specs.Text.{Bytes, _orElse_}
 use Rattle.rules.specs.Lines.{Header, headerLine, moveLine, dashLine}
 use Rattle.rules.specs.Tree.{Waits, noWaits, wait, Moves, noMoves, move, Wait, Move, Sheet, movesOfWaits, movesOfMoves, waitsOfWaits, waitsOfMoves, everyMove, everyWait, moveCount, waitCount}
 use Rattle.rules.specs.Written.{written}
-use Rattle.rules.specs.Reading.{Result, refused, got, Spot, readMove, ended, readBody, headed, readSheet}
+use Rattle.rules.specs.Reading.{Result, refused, got, Spot, readMove, ended, readBody, headed, readSheetUpTo, readSheet}
 use Rattle.rules.specs.Plain.{linesOfWaits, linesOfMoves, linesOf, upFrom, depthOfWaits, depthOfMoves, WellRead}
 use Rattle.rules.specs.declared.Board.{Board}
 use Rattle.rules.proofs.Lists.{in-both}
@@ -161,7 +161,7 @@ headed-got t (some x) s f e =
 
 module _ (t : Bytes) (s : Sheet) (e : readSheet t ≡ got s) where
   sheet-read : SheetRead t s
-  unfolding readSheet
+  unfolding readSheetUpTo
   sheet-read = headed-got t (headerLine t) s refl e
 
   root-read : MoveRead (s .board) (moveLine orElse dashLine) mostDepth (record { text = sheet-read .body; line = 2; nodes = 0 }) (s .root) (sheet-read .after)

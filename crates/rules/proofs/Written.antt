@@ -13,7 +13,7 @@ use Rattle.rules.specs.Text.{Bytes, Reader, _orElse_}
 use Rattle.rules.specs.Lines.{Line, moveLine, dashLine, waitLine}
 use Rattle.rules.specs.Tree.{Waits, noWaits, wait, Moves, noMoves, move, Wait, Move, asWaits, asMoves, Sheet, movesOfWaits, movesOfMoves, waitsOfWaits, waitsOfMoves, everyMove, everyWait, moveCount, waitCount}
 use Rattle.rules.specs.Written.{printed, aLine, writtenHeader, placeOf, howManyWaits, howManyMoves, writtenMove, writtenWait, writtenWaits, writtenMoves, written}
-use Rattle.rules.specs.Reading.{Result, got, Spot, Reading, go, give, within, cellOf, nodeHere, nodeLine, inTurn, readMove, readWait, ended, readBody, headed, readSheet}
+use Rattle.rules.specs.Reading.{Result, got, Spot, Reading, go, give, within, cellOf, nodeHere, nodeLine, inTurn, readMove, readWait, ended, readBody, headed, readSheetUpTo, readSheet}
 use Rattle.rules.specs.Unread.{BoardSize}
 use Rattle.rules.specs.Plain.{linesOfWaits, linesOfMoves, linesOf, upFrom, depthOfWaits, depthOfMoves, WellRead, Spells}
 use Rattle.rules.specs.declared.Board.{Board}
@@ -169,7 +169,7 @@ module _ (b : Board) (size : BoardSize b) where
 
 -- what is written of a sheet that is `WellRead` reads as that sheet
 pub read-back : (s : Sheet) → WellRead s → readSheet (written s) ≡ got s
-unfolding readSheet headed readBody ended written linesOf moveCount waitCount everyMove everyWait
+unfolding readSheetUpTo headed readBody ended written linesOf moveCount waitCount everyMove everyWait
 read-back s h =
     let b = s .board in
     let ws = s .root .waits in

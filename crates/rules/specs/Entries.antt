@@ -6,13 +6,13 @@ use mathlib.Core.List.{List, [], _∷_, _++_}
 use mathlib.Core.Option.{Option, none, some}
 use lib.Dec.{ltb}
 use lib.ListN.{length, getD, drop, replicate}
-use Rattle.rules.specs.Sizes.{mostBytes, leastWorkspace, mostOutcomes}
+use Rattle.rules.specs.Sizes.{largest, mostBytes, leastWorkspace, mostOutcomes}
 use Rattle.rules.specs.Words.{if_then_else_, among}
 use Rattle.rules.specs.Text.{Bytes}
 use Rattle.rules.specs.Board.{isCell, listed}
 use Rattle.rules.specs.Joining.{joined}
 use Rattle.rules.specs.Tree.{Sheet, moveCount, waitCount}
-use Rattle.rules.specs.Reading.{Result, refused, got, readSheet}
+use Rattle.rules.specs.Reading.{Result, refused, got, readSheetUpTo}
 use Rattle.rules.specs.Fair.{Fault, firstNotApart, firstNotElusive}
 use Rattle.rules.specs.Outcomes.{outcomes, outcomeCount}
 use Rattle.rules.specs.Answering.{Game, start, isOver, isTaken, answered}
@@ -45,17 +45,23 @@ unfoldable pub refuseUnjoined : Board → Player → (n : ℕ) → List (List �
 refuseUnjoined b p n [] = got tt
 refuseUnjoined b p n (o ∷ os) = elim (joined b p (among o)) [ true ↦ refuseUnjoined b p (n + 1) os | false ↦ refused (NotJoined n) ]
 
--- 2, then the reading's 3 to 9
-unfoldable pub readText : Bytes → Result Sheet
-readText t = do
+-- 2, then the reading's 3 to 9, of a board of up to so many columns and rows
+unfoldable pub readTextUpTo : (most : ℕ) → Bytes → Result Sheet
+readTextUpTo most t = do
   _ ← refuseIf (ltb mostBytes (length t)) LongText
-  readSheet t
+  readSheetUpTo most t
+
+abbrev pub readText : Bytes → Result Sheet
+readText t = readTextUpTo largest t
 
 -- order: 1, 2, 3; then the reading's 4 to 9
-unfoldable pub read : (workspace : ℕ) → Bytes → Result Sheet
-read w t = do
+unfoldable pub readUpTo : (most workspace : ℕ) → Bytes → Result Sheet
+readUpTo most w t = do
   _ ← refuseIf (ltb w leastWorkspace) SmallWorkspace
-  readText t
+  readTextUpTo most t
+
+abbrev pub read : (workspace : ℕ) → Bytes → Result Sheet
+read w t = readUpTo largest w t
 
 -- then 10, 11, 12, each over the whole tree
 unfoldable pub fair : Sheet → Result Sheet
@@ -71,12 +77,15 @@ satisfying s = do
   _ ← refuseUnjoined (s .board) (s .player) 0 (outcomes s)
   got s
 
--- the sheet of a text that judge accepts, or the refusal
-unfoldable pub accepted : (workspace : ℕ) → Bytes → Result Sheet
-accepted w t = do
-  s ← read w t
+-- the sheet that judge accepts, of what was read, or the refusal
+abbrev pub acceptedOf : Result Sheet → Result Sheet
+acceptedOf r = do
+  s ← r
   s ← fair s
   satisfying s
+
+unfoldable pub accepted : (workspace : ℕ) → Bytes → Result Sheet
+accepted w t = acceptedOf (read w t)
 
 -- the counts of a sheet that judge accepts: moves, waits and outcomes
 unfoldable pub counts : Sheet → Counts
@@ -128,11 +137,14 @@ playOn xs (refused v) = refusedPlay v 0
 playOn xs (got s) = playedOut s (rounds s (start s) 1 xs)
 
 -- play goes on with 14 (room shorter than the move list), then for each move in turn 15, 16, 17
-unfoldable pub play : (workspace : ℕ) → Bytes → (moves : List ℕ) → (room : ℕ) → PlayReply
-play w t xs room = playOn xs do
-  s ← accepted w t
+abbrev pub playOf : Result Sheet → (moves : List ℕ) → (room : ℕ) → PlayReply
+playOf r xs room = playOn xs do
+  s ← r
   _ ← refuseIf (ltb room (length xs)) ShortRoom
   got s
+
+unfoldable pub play : (workspace : ℕ) → Bytes → (moves : List ℕ) → (room : ℕ) → PlayReply
+play w t xs room = playOf (accepted w t) xs room
 
 -- Outcome takes a sheet, an outcome's number and room for its cells, listed in ascending order
 unfoldable pub outcomeCells : Sheet → ℕ → List ℕ
@@ -148,13 +160,16 @@ named (refused v) = record { verdict = v; cells = [] }
 named (got xs) = record { verdict = Done; cells = xs }
 
 -- outcome does not give 13; it goes on with 18, then 14 (room shorter than the cells)
-unfoldable pub outcome : (workspace : ℕ) → Bytes → (number room : ℕ) → OutcomeReply
-outcome w t i room = named do
-  s ← read w t
+abbrev pub outcomeOf : Result Sheet → (number room : ℕ) → OutcomeReply
+outcomeOf r i room = named do
+  s ← r
   s ← fair s
   _ ← refuseIf (not (ltb i (outcomeCount s))) NoSuchOutcome
   _ ← refuseIf (ltb room (length (outcomeCells s i))) ShortRoom
   got (outcomeCells s i)
+
+unfoldable pub outcome : (workspace : ℕ) → Bytes → (number room : ℕ) → OutcomeReply
+outcome w t i room = outcomeOf (read w t) i room
 
 -- on refusal 1 the workspace is unchanged; otherwise its first 8,192 numbers are 0 on return and the rest unchanged
 unfoldable pub workspaceAfter : List ℕ → List ℕ

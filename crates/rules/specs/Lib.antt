@@ -15,6 +15,7 @@ pub mod Outcomes
 pub mod Choice
 pub mod Answering
 pub mod Entries
+pub mod UpTo
 pub mod Plain
 pub mod Promise
 pub mod Holder

@@ -30,18 +30,21 @@ pub record Line : Type 0 where
 unfoldable pub player : Reader Player
 player = (word "D" >> give D) orElse (word "A" >> give A)
 
--- line 1: `hex`, columns, rows, `D` or `A`
-unfoldable pub headerLine : Reader Header
-headerLine = do
+-- line 1: `hex`, columns, rows, `D` or `A`, of a board of up to so many columns and rows
+unfoldable pub headerUpTo : (most : ℕ) → Reader Header
+headerUpTo most = do
   word "hex"
   tab
-  c ← numberIn 1 largest
+  c ← numberIn 1 most
   tab
-  r ← numberIn 1 largest
+  r ← numberIn 1 most
   tab
   p ← player
   lineFeed
   give (record { board = record { columns = c; rows = r }; player = p })
+
+abbrev pub headerLine : Reader Header
+headerLine = headerUpTo largest
 
 -- the column of a lower-case letter
 unfoldable pub letter : Reader ℕ

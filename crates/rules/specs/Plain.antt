@@ -51,7 +51,7 @@ unfoldable mutual
   depthOfMoves noMoves = 0
   depthOfMoves (move line c ws ms) = max (suc (depthOfWaits ws)) (depthOfMoves ms)
 
--- What a sheet that reads is: a board of 1 to 13 columns and rows, waits with at least one move, cells on the board, `-` at the
+-- What a sheet that reads is: a board of 1 to 19 columns and rows, waits with at least one move, cells on the board, `-` at the
 -- root only, at most 2,048 nodes, at most depth 128, and nodes on the lines 2, 3 and so on
 pub record WellRead (s : Sheet) : Type 0 where
   pub size : BoardSize (s .board)

@@ -4,10 +4,10 @@ use mathlib.Core.Bool.{Bool, true, false, not}
 use mathlib.Core.List.{List, [], _∷_}
 use mathlib.Core.Option.{Option, none, some}
 use lib.Dec.{eqb}
-use Rattle.rules.specs.Sizes.{mostNodes, mostDepth}
+use Rattle.rules.specs.Sizes.{largest, mostNodes, mostDepth}
 use Rattle.rules.specs.Board.{onBoard, cellAt}
 use Rattle.rules.specs.Text.{Bytes, Reader, _orElse_}
-use Rattle.rules.specs.Lines.{Line, Place, Header, headerLine, moveLine, dashLine, waitLine}
+use Rattle.rules.specs.Lines.{Line, Place, Header, headerUpTo, moveLine, dashLine, waitLine}
 use Rattle.rules.specs.Tree.{Wait, Move, noWaits, noMoves, asWaits, asMoves, Sheet}
 use Rattle.rules.specs.declared.Board.{Board}
 use Rattle.rules.specs.declared.Verdict.{Verdict}
@@ -143,6 +143,9 @@ unfoldable pub headed : Option (Header × Bytes) → Result Sheet
 headed none = refused BadHeader
 headed (some x) = readBody (x .0) (x .1)
 
--- a sheet's text
-unfoldable pub readSheet : Bytes → Result Sheet
-readSheet t = headed (headerLine t)
+-- a sheet's text, of a board of up to so many columns and rows
+unfoldable pub readSheetUpTo : (most : ℕ) → Bytes → Result Sheet
+readSheetUpTo most t = headed (headerUpTo most t)
+
+abbrev pub readSheet : Bytes → Result Sheet
+readSheet t = readSheetUpTo largest t

@@ -38,6 +38,10 @@ reply (playing s xs) =
 abbrev pub P1 : S.String
 P1 = "hex 2 2 D/m b1 1/w 2/m a2 0/m b2 0/"
 
+-- the same on 19 columns
+abbrev P1·19 : S.String
+P1·19 = "hex 19 2 D/m b1 1/w 2/m a2 0/m b2 0/"
+
 abbrev pub P3 : S.String
 P3 = "hex 2 2 D/m b1 1/w 1/m a2 0/"
 
@@ -53,6 +57,10 @@ p1 = onB1 (move 4 3 noWaits (move 5 4 noWaits noMoves))
 
 abbrev pub p3 : Sheet
 p3 = onB1 (move 4 3 noWaits noMoves)
+
+-- on 19 by 19 a root without a stone, and a wait for a1 or b1
+abbrev pub large : Sheet
+large = record { board = record { columns = 19; rows = 19 }; player = D; root = record { line = 2; cell = 0; waits = wait 3 (move 4 1 noWaits (move 5 2 noWaits noMoves)) noWaits } }
 
 -- a row: its name in the paper, what is asked, and the reply
 pub record Row : Type 0 where
@@ -98,6 +106,14 @@ traps =
     ∷ row "8: a line is missing" (judging "hex 2 2 D/m b1 1/") (8 ∷ 3 ∷ 0 ∷ 0 ∷ 0 ∷ 0 ∷ 0 ∷ [])
     ∷ row "9: an empty line after the tree" (judging "hex 1 1 D/m a1 0//") (9 ∷ 3 ∷ 0 ∷ 0 ∷ 0 ∷ 0 ∷ 0 ∷ [])
     ∷ row "on a board of one row a single cell joins for D" (judging "hex 3 1 D/m b1 0/") (0 ∷ 0 ∷ 0 ∷ 0 ∷ 1 ∷ 0 ∷ 1 ∷ [])
+    ∷ row "columns go to s" (judging "hex 19 1 D/m s1 0/") (0 ∷ 0 ∷ 0 ∷ 0 ∷ 1 ∷ 0 ∷ 1 ∷ [])
+    ∷ row "5: no column t" (judging "hex 19 1 D/m t1 0/") (5 ∷ 2 ∷ 0 ∷ 0 ∷ 0 ∷ 0 ∷ 0 ∷ [])
+    ∷ row "rows go to 19" (judging "hex 1 19 A/m a19 0/") (0 ∷ 0 ∷ 0 ∷ 0 ∷ 1 ∷ 0 ∷ 1 ∷ [])
+    ∷ row "5: no row 20" (judging "hex 1 19 A/m a20 0/") (5 ∷ 2 ∷ 0 ∷ 0 ∷ 0 ∷ 0 ∷ 0 ∷ [])
+    ∷ row "3: 20 columns" (judging "hex 20 1 D/m a1 0/") (3 ∷ 1 ∷ 0 ∷ 0 ∷ 0 ∷ 0 ∷ 0 ∷ [])
+    ∷ row "3: 20 rows" (judging "hex 1 20 A/m a1 0/") (3 ∷ 1 ∷ 0 ∷ 0 ∷ 0 ∷ 0 ∷ 0 ∷ [])
+    ∷ row "the last cell of 19 by 2 is a free move" (playing P1·19 (38 ∷ [])) (0 ∷ 0 ∷ 1 ∷ 20 ∷ [])
+    ∷ row "16: one more is no cell" (playing P1·19 (39 ∷ [])) (16 ∷ 1 ∷ 0 ∷ [])
     ∷ []
 
 unfoldable pub replies : List Row → List (List ℕ)

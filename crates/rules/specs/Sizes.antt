@@ -1,9 +1,9 @@
 -- Every size that document 01 names, each in its one place.
 use Prim.Native.Nat.{ℕ}
 
--- a board has 1 to 13 columns and 1 to 13 rows
+-- a board has 1 to 19 columns and 1 to 19 rows
 abbrev pub largest : ℕ
-largest = 13
+largest = 19
 
 -- a cell is a lower-case letter and a number 1 to 99
 abbrev pub highestRow : ℕ

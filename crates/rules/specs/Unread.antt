@@ -18,10 +18,13 @@ use Rattle.rules.specs.declared.Player.{Player}
 use Rattle.rules.specs.declared.Verdict.{Verdict}
 use Rattle.rules.specs.declared.Verdict.the-variants.{BadHeader, BadLine, OffBoard, TooManyNodes, TooDeep, Unfinished, TextAfter}
 
--- a board has 1 to 13 columns and 1 to 13 rows
-pub record BoardSize (b : Board) : Type 0 where
-  pub columns : (1 ≤ b .columns) × (b .columns ≤ largest)
-  pub rows : (1 ≤ b .rows) × (b .rows ≤ largest)
+-- a board has 1 to so many columns and rows: to 19
+pub record BoardUpTo (most : ℕ) (b : Board) : Type 0 where
+  pub columns : (1 ≤ b .columns) × (b .columns ≤ most)
+  pub rows : (1 ≤ b .rows) × (b .rows ≤ most)
+
+abbrev pub BoardSize : Board → Type 0
+BoardSize b = BoardUpTo largest b
 
 -- a place that can be written: a letter and a number 1 to 99
 pub record Nameable (p : Place) : Type 0 where

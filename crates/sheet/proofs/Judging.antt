@@ -9,14 +9,14 @@ use Rattle.rules.specs.Sizes.{leastWorkspace}
 use Rattle.rules.specs.Text.{Bytes}
 use Rattle.rules.specs.Tree.{Sheet}
 use Rattle.rules.specs.Reading.{Result, refused, got}
-use Rattle.rules.specs.Entries.{_>>=_, refuseIf, readText, read, accepted, judged, judge, workspaceAfter, JudgeKept}
+use Rattle.rules.specs.Entries.{_>>=_, refuseIf, readTextUpTo, readText, readUpTo, accepted, judged, judge, workspaceAfter, JudgeKept}
 use Rattle.rules.specs.declared.Verdict.{Verdict}
 use Rattle.rules.specs.declared.Verdict.the-variants.{SmallWorkspace}
 use Rattle.judging.specs.Checked.{passing}
 
 -- of a text, with the workspace that document 01 names
 pub text-accepted : (w : ℕ) (t : Bytes) → leastWorkspace ≤ w → accepted w t ≡ (readText t >>= passing)
-unfolding accepted read readText refuseIf _>>=_
+unfolding accepted readUpTo readTextUpTo refuseIf _>>=_
 text-accepted w t h = rw (le-ltb w leastWorkspace h)
 
 module _ (w : ℕ) (t : Bytes) (h : leastWorkspace ≤ w) where
@@ -34,7 +34,7 @@ reply-sheet t s v e j = j ∙ sym (text-judged leastWorkspace t (omega arith) (g
 
 -- judge itself: with any workspace that is long enough the verdict is the same
 pub judge-short : (ws : List ℕ) (t : Bytes) → length ws < leastWorkspace → JudgeKept ws t SmallWorkspace ws
-unfolding judge judged accepted read readText refuseIf workspaceAfter _>>=_
+unfolding judge judged accepted readUpTo readTextUpTo refuseIf workspaceAfter _>>=_
 judge-short ws t h = record { reply = sym (rw (lt-ltb (length ws) leastWorkspace h)); memory = sym (rw (lt-ltb (length ws) leastWorkspace h)) }
 
 pub judge-long : (ws : List ℕ) (t : Bytes) (v : Verdict) (after : List ℕ) → leastWorkspace ≤ length ws → v ≡ judge leastWorkspace t

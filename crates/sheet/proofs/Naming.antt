@@ -13,7 +13,7 @@ use Rattle.rules.specs.Board.{listed}
 use Rattle.rules.specs.Tree.{Sheet, stone}
 use Rattle.rules.specs.Reading.{Result, refused, got}
 use Rattle.rules.specs.Outcomes.{outcomes, outcomeCount, outcomesOfWaits}
-use Rattle.rules.specs.Entries.{_>>=_, refuseIf, readText, read, fair, outcomeCells, OutcomeReply, named, outcome, outcomeShown, workspaceAfter, roomAfter, OutcomeKept}
+use Rattle.rules.specs.Entries.{_>>=_, refuseIf, readTextUpTo, readText, readUpTo, fair, outcomeCells, OutcomeReply, named, outcome, outcomeShown, workspaceAfter, roomAfter, OutcomeKept}
 use Rattle.rules.specs.declared.Board.{Board}
 use Rattle.rules.specs.declared.Named.{Named}
 use Rattle.rules.specs.declared.Verdict.{Verdict}
@@ -91,7 +91,7 @@ module _ (s : Sheet) (i room : ℕ) where
 -- of a text, with the workspace that document 01 names
 module _ (t : Bytes) (i room : ℕ) where
   text-outcome : (w : ℕ) → leastWorkspace ≤ w → outcome w t i room ≡ named (readText t >>= λ s. naming s i room)
-  unfolding outcome read readText naming listing refuseIf _>>=_
+  unfolding outcome readUpTo readTextUpTo naming listing refuseIf _>>=_
   text-outcome w h = rw (le-ltb w leastWorkspace h)
 
   pub outcome-refused : (v : Verdict) → readText t ≡ refused v → outcome leastWorkspace t i room ≡ named (refused v)
@@ -108,7 +108,7 @@ module _ (t : Bytes) (i room : ℕ) where
 -- outcome itself
 pub outcome-short : (ws : List ℕ) (t : Bytes) (i : ℕ) (room : List ℕ) (r : Named) → length ws < leastWorkspace → r ≡ outcomeShown (named (refused SmallWorkspace))
     → OutcomeKept ws t i room r ws room
-unfolding outcome read readText refuseIf workspaceAfter roomAfter named _>>=_
+unfolding outcome readUpTo readTextUpTo refuseIf workspaceAfter roomAfter named _>>=_
 outcome-short ws t i room r h e =
     record {
       reply = e ∙ sym (rw (lt-ltb (length ws) leastWorkspace h));

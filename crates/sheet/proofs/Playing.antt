@@ -12,7 +12,7 @@ use Rattle.rules.specs.Text.{Bytes}
 use Rattle.rules.specs.Tree.{Sheet}
 use Rattle.rules.specs.Reading.{Result, refused, got}
 use Rattle.rules.specs.Answering.{start}
-use Rattle.rules.specs.Entries.{_>>=_, refuseIf, readText, read, accepted, rounds, PlayReply, refusedPlay, playedOut, playOn, play, playShown, workspaceAfter, roomAfter, PlayKept}
+use Rattle.rules.specs.Entries.{_>>=_, refuseIf, readText, readUpTo, read, accepted, rounds, PlayReply, refusedPlay, playedOut, playOn, play, playShown, workspaceAfter, roomAfter, PlayKept}
 use Rattle.rules.specs.declared.Board.{Board}
 use Rattle.rules.specs.declared.Player.{Player}
 use Rattle.rules.specs.declared.Played.{Played}
@@ -125,7 +125,7 @@ play-short ws t moves room r h e =
     record { reply = k .reply-is; memory = unfold workspaceAfter in sym (rw (lt-ltb (length ws) leastWorkspace h)); answers = k .room-is }
   where
     small : accepted (length ws) t ≡ refused SmallWorkspace
-    small = unfold accepted read refuseIf _>>=_ in rw (lt-ltb (length ws) leastWorkspace h)
+    small = unfold accepted readUpTo refuseIf _>>=_ in rw (lt-ltb (length ws) leastWorkspace h)
 
 pub play-long : (ws : List ℕ) (t : Bytes) (moves room : List ℕ) (r : Played) (after room′ : List ℕ) → leastWorkspace ≤ length ws
     → PlayedKept (play leastWorkspace t moves (length room)) room r room′ → after ≡ replicate leastWorkspace 0 ++ drop leastWorkspace ws

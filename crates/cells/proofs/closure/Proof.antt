@@ -1,65 +1,140 @@
--- `cells::closure` meets its contract: the set at the loop's head is linked to the start and holds it; what each row lacks of 2 ^ 32 falls.
+-- `cells::closure` meets its contract: the rows above the one that is looked at take nothing in; where it takes cells in, what the rows lack of
+-- 2 ^ 32 falls.
 use borrow.Author.Needs.{needs}
-use borrow.Author.Tests.{not-true, not-false}
-use mathlib.Core.Path.{sym, subst, _∙_}
+use mathlib.Core.Path.{sym, _∙_}
 use mathlib.Core.List.{List}
-use Prim.Native.Nat.{ℕ, _≤_}
-use lib.ListN.{getD}
+use Prim.Native.Nat.{ℕ, _+_, _-_, _*_, _^_, _<_, _≤_}
+use native.Mathlib.Omega.{arith}
+use lib.ListN.{getD, set}
 use mir.Val.{Fits}
 use mir.Syntax.{w32}
-use Rattle.cells.specs.Rows.{In}
-use Rattle.cells.specs.Growing.{Words, room, Linked, own, Closure}
-use Rattle.cells.proofs.Grown.{grown-keeps, grown-le, grown-linked, linked-through, closed}
-use Rattle.cells.proofs.Room.{room-less}
+use Rattle.cells.specs.Growing.{room}
+use Rattle.cells.proofs.Growing.{Settled, settled-none, settled-more, settled-back, settled-room, settled-all}
 use Rattle.cells.proofs.closure.Statement.{statement}
 use Rattle.cells.proofs.closure.Tie as tie
 
 abbrev Inv-loop : tie.InvT-loop
-Inv-loop cells rows words₀ words =
-    Words words × ((c k : ℕ) → In words c k → Linked (cells .rows) words₀ c k) × ((c k : ℕ) → In words₀ c k → In words c k)
+Inv-loop rows cells words₀ row₀ words row = (1 ≤ row) × (row ≤ rows + 1) × Settled (cells .rows) words₀ row words
 
 abbrev μ-loop : tie.MeasureT-loop
-μ-loop cells rows words₀ words = room words
+μ-loop rows cells words₀ row₀ words row = 2 * room words + (rows + 1 - row)
 
 -- the words of the set at the start
 words : (c : tie.After-words Inv-loop μ-loop) (k : ℕ) → Fits w32 (getD (c .before .args .a .rows) k 0)
 words c k = search needs
 
 loop-holds : tie.Need-loop-holds Inv-loop μ-loop
-loop-holds c = (record { long = search needs; fits = λ k. words c k .fits }, λ x k i. own i, λ x k i. i)
+loop-holds c = (omega arith, omega arith, settled-none _ (record { long = search needs; fits = λ k. words c k .fits }))
 
-slice-aggregate-grow : tie.Need-slice-aggregate-grow Inv-loop μ-loop
-slice-aggregate-grow c = search needs
+mul-grow-row : tie.Need-mul-grow-row Inv-loop μ-loop
+mul-grow-row c = search needs
 
-grow-requires : tie.Need-grow-requires Inv-loop μ-loop
-grow-requires c κs = (c .before .before .before .pre .0, c .before .loop .inv .0)
+element-copy-out-grow-row : tie.Need-element-copy-out-grow-row Inv-loop μ-loop
+element-copy-out-grow-row c = search needs
 
-returns : tie.Need-returns Inv-loop μ-loop
-returns c =
-    let p = c .before .before .before .before .before .before in
-    let l = c .before .before .before .before .loop in
-    let g = c .before .before .grow .ensures in
-    let same = g .stopped (not-true _ (c .if1 .taken)) in
-    subst (Closure (p .args .cells .rows) (p .args .a .rows)) same (record { sound = l .inv .1; whole = closed _ (p .pre .0) _ _ _ (l .inv .0 .long) (p .pre .1) (same ∙ g .rows-are) (l .inv .2) })
+sub-grow-row : tie.Need-sub-grow-row Inv-loop μ-loop
+sub-grow-row c = search needs
+
+mul-grow-row-2 : tie.Need-mul-grow-row-2 Inv-loop μ-loop
+mul-grow-row-2 c = search needs
+
+array-read-grow-row : tie.Need-array-read-grow-row Inv-loop μ-loop
+array-read-grow-row c = search needs
+
+mul-grow-row-3 : tie.Need-mul-grow-row-3 Inv-loop μ-loop
+mul-grow-row-3 c = search needs
+
+array-read-grow-row-2 : tie.Need-array-read-grow-row-2 Inv-loop μ-loop
+array-read-grow-row-2 c = search needs
+
+add-grow-row : tie.Need-add-grow-row Inv-loop μ-loop
+add-grow-row c = search needs
+
+mul-grow-row-4 : tie.Need-mul-grow-row-4 Inv-loop μ-loop
+mul-grow-row-4 c = search needs
+
+array-read-grow-row-3 : tie.Need-array-read-grow-row-3 Inv-loop μ-loop
+array-read-grow-row-3 c = search needs
+
+grow-row-requires : tie.Need-grow-row-requires Inv-loop μ-loop
+grow-row-requires c κs = search needs
+
+mul-if1 : tie.Need-mul-if1 Inv-loop μ-loop
+mul-if1 c = search needs
+
+array-read-if1 : tie.Need-array-read-if1 Inv-loop μ-loop
+array-read-if1 c = search needs
+
+add-row : tie.Need-add-row Inv-loop μ-loop
+add-row c = search needs
 
 loop-less : tie.Need-loop-less Inv-loop μ-loop
-loop-less c =
-    let p = c .before .before .before .before .before .before in
-    let l = c .before .before .before .before .loop in
-    let g = c .before .before .grow in
-    let le : (k : ℕ) → getD (l .words) k 0 ≤ getD (g .last .1 .0) k 0 = rw (g .ensures .rows-are) (grown-le _ (p .pre .0) (p .args .cells .rows) (l .words) (l .inv .0 .long)) in
-    room-less (l .words) (g .last .1 .0) (l .inv .0 .long ∙ sym (g .ensures .words .long)) le (g .ensures .words .fits) (g .ensures .goes-on (not-false _ (c .if1 .left)))
+loop-less c = search needs
 
 loop-again : tie.Need-loop-again Inv-loop μ-loop
 loop-again c =
-    let p = c .before .before .before .before .before .before in
     let l = c .before .before .before .before .loop in
-    let e = c .before .before .grow .ensures .rows-are in
-    let s : List ℕ = p .args .cells .rows in (
-      c .before .before .grow .ensures .words,
-      λ x k i. linked-through (l .inv .1) (grown-linked _ (p .pre .0) s (l .words) (l .inv .0 .long) (p .pre .1) x k (rw e at i)),
-      λ x k i. rw e (grown-keeps _ (p .pre .0) s (l .words) (l .inv .0 .long) x k (l .inv .2 x k i)),
-    )
+    (omega arith, omega arith, settled-more (l .inv .2) (l .inv .0) (sym (c .before .grow-row .ensures) ∙ c .if1 .taken))
+
+mul-words : tie.Need-mul-words Inv-loop μ-loop
+mul-words c = search needs
+
+array-write-words : tie.Need-array-write-words Inv-loop μ-loop
+array-write-words c = search needs
+
+sub-row : tie.Need-sub-row Inv-loop μ-loop
+sub-row c = search needs
+
+-- a row that took cells in: what is settled then, and that there is less room
+module _ (c : tie.Else1 Inv-loop μ-loop) where
+  abbrev rows : List ℕ
+  rows = c .before .before .before .before .loop .words
+
+  abbrev row : ℕ
+  row = c .before .before .before .before .loop .row
+
+  abbrev later : List ℕ
+  later = set rows row (c .before .grow-row .result)
+
+  few : row < 21
+  few = omega (arith, c .before .before .before .loop-test .taken, c .before .before .before .before .before .before .pre .0)
+
+  fits : c .before .grow-row .result < 2 ^ 32
+  fits = search needs
+
+  back : (row′ : ℕ) → row′ ≤ row - 2 + 1
+      → Settled (c .before .before .before .before .before .before .args .t1 .rows) (c .before .before .before .before .before .before .args .a .rows) row′ later
+  back row′ h =
+      let l = c .before .before .before .before .loop in
+      settled-back fits _ row row′ (l .inv .2) (l .inv .0) few (c .before .before .before .before .before .before .pre .1) (c .before .grow-row .ensures) h
+
+  less : room later < room rows
+  less =
+      let l = c .before .before .before .before .loop in
+      settled-room fits row (l .inv .2) (l .inv .0) few (c .before .grow-row .ensures) (c .if1 .left)
+
+loop-less-2 : tie.Need-loop-less-2 Inv-loop μ-loop
+loop-less-2 c =
+    let l = c .before .before .before .before .before .loop in
+    omega (arith, less (c .before), l .inv .1, c .if2 .taken)
+
+loop-again-2 : tie.Need-loop-again-2 Inv-loop μ-loop
+loop-again-2 c =
+    let l = c .before .before .before .before .before .loop in
+    (omega (arith, c .if2 .taken), omega (arith, l .inv .1), back (c .before) _ (omega arith))
+
+loop-less-3 : tie.Need-loop-less-3 Inv-loop μ-loop
+loop-less-3 c = omega (arith, less (c .before))
+
+loop-again-3 : tie.Need-loop-again-3 Inv-loop μ-loop
+loop-again-3 c =
+    let l = c .before .before .before .before .before .loop in
+    (l .inv .0, l .inv .1, back (c .before) _ (omega (arith, c .if2 .left)))
+
+returns : tie.Need-returns Inv-loop μ-loop
+returns c =
+    let l = c .before .loop in
+    settled-all _ (l .inv .2) (c .loop-test .left) (c .before .before .before .pre .1)
 
 pub closure-spec : {M : Type 1} → statement M
 closure-spec =
@@ -68,8 +143,27 @@ closure-spec =
     Inv-loop
     μ-loop
     loop-holds
-    slice-aggregate-grow
-    grow-requires
-    returns
+    mul-grow-row
+    element-copy-out-grow-row
+    sub-grow-row
+    mul-grow-row-2
+    array-read-grow-row
+    mul-grow-row-3
+    array-read-grow-row-2
+    add-grow-row
+    mul-grow-row-4
+    array-read-grow-row-3
+    grow-row-requires
+    mul-if1
+    array-read-if1
+    add-row
     loop-less
-    loop-again)
+    loop-again
+    mul-words
+    array-write-words
+    sub-row
+    loop-less-2
+    loop-again-2
+    loop-less-3
+    loop-again-3
+    returns)

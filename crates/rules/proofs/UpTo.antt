@@ -1,0 +1,52 @@
+-- Sheets whose header has no size from 14 to 19 get the reply they got.
+use mathlib.Core.Path.{_≡_, refl, sym, ap, _∙_}
+use Prim.Native.Nat.{ℕ, suc, _≤_}
+use mathlib.Core.List.{List}
+use mathlib.Core.Option.{Option, none, some}
+use lib.Dec.{ltb}
+use lib.ListN.{length}
+use native.Mathlib.Omega.{arith}
+use Rattle.rules.specs.Sizes.{largest, mostBytes, leastWorkspace}
+use Rattle.rules.specs.Text.{Bytes}
+use Rattle.rules.specs.Lines.{Header, headerUpTo, headerLine}
+use Rattle.rules.specs.Tree.{Sheet}
+use Rattle.rules.specs.Reading.{Result, headed, readSheetUpTo, readSheet}
+use Rattle.rules.specs.Entries.{_>>=_, refuseIf, readTextUpTo, readUpTo, read, acceptedOf, accepted, judged, judge, playOf, play, outcomeOf, outcome}
+use Rattle.rules.specs.Unread.{BoardUpTo, BoardSize}
+use Rattle.rules.specs.UpTo.{NoSizeFrom, SameReplies}
+use Rattle.rules.specs.declared.Verdict.the-variants.{SmallWorkspace, LongText}
+use Rattle.rules.proofs.Steps.{none≢some}
+use Rattle.rules.proofs.Lines.{header-is, header-back}
+
+module _ (most : ℕ) (few : most ≤ largest) (t : Bytes) (small : NoSizeFrom (suc most) t) where
+  same-header : headerLine t ≡ headerUpTo most t
+  same-header = go (headerLine t) refl (headerUpTo most t) refl
+    where
+      go : (o : Option (Header × Bytes)) → headerLine t ≡ o → (p : Option (Header × Bytes)) → headerUpTo most t ≡ p → headerLine t ≡ headerUpTo most t
+      go (some x) e p f =
+          let k = header-is t x e in
+          let size : BoardUpTo most (x .0 .board) = record { columns = (k .1 .columns .0, omega (arith, small .columns x e)); rows = (k .1 .rows .0, omega (arith, small .rows x e)) } in
+          e ∙ sym (ap (headerUpTo most) (k .0) ∙ header-back (x .0 .board) (x .0 .player) (x .1) size)
+      go none e none f = e ∙ sym f
+      go none e (some x) f =
+          let k = header-is t x f in
+          let size : BoardSize (x .0 .board) = record { columns = (k .1 .columns .0, omega (arith, few, k .1 .columns .1)); rows = (k .1 .rows .0, omega (arith, few, k .1 .rows .1)) } in
+          absurd (none≢some (sym e ∙ ap headerLine (k .0) ∙ header-back (x .0 .board) (x .0 .player) (x .1) size))
+
+  same-sheet : readSheet t ≡ readSheetUpTo most t
+  unfolding readSheetUpTo
+  same-sheet = ap headed same-header
+
+  same-read : (w : ℕ) → read w t ≡ readUpTo most w t
+  unfolding readUpTo readTextUpTo
+  same-read w =
+      ap (λ (r : Result Sheet). refuseIf (ltb w leastWorkspace) SmallWorkspace >>= λ _. refuseIf (ltb mostBytes (length t)) LongText >>= λ _. r) same-sheet
+
+  pub same-replies : SameReplies most t
+  unfolding judge accepted play outcome
+  same-replies =
+      record {
+        to-judge = λ w. ap (λ (r : Result Sheet). judged (acceptedOf r)) (same-read w);
+        to-play = λ w xs room. ap (λ (r : Result Sheet). playOf (acceptedOf r) xs room) (same-read w);
+        to-outcome = λ w i room. ap (λ (r : Result Sheet). outcomeOf r i room) (same-read w);
+      }
