@@ -1,12 +1,11 @@
 -- A loop that stores f i at each row i, from the front: after n turns the rows are `fill f n a`.
-use mathlib.Core.Path.{_≡_, refl, sym, ap, _∙_}
+use mathlib.Core.Path.{_≡_, refl, ap, _∙_}
 use mathlib.Core.List.{List, [], _∷_}
 use Prim.Native.Nat.{ℕ, zero, suc, _+_, _<_, _≤_}
 use native.Mathlib.Omega.{arith}
 use native.Mathlib.Nat.{le-refl, not-suc-le-zero, le-of-suc-le-suc}
 use native.Mathlib.Numerals.{add-one}
 use lib.ListN.{length, getD, set}
-use lib.Seq.{set-getD}
 use Rattle.cells.specs.Rows.{fill}
 
 pub fill-none : (f : ℕ → ℕ) (a : List ℕ) → a ≡ fill f 0 a
@@ -44,10 +43,6 @@ module _ (f : ℕ → ℕ) (n : ℕ) (a l : List ℕ) (e : l ≡ fill f n a) whe
   -- a turn that stores
   pub fill-more : (v : ℕ) → v ≡ f n → set l n v ≡ fill f (n + 1) a
   fill-more v p = rw (e, p, add-one) (fill-suc f n a)
-
-  -- a turn that leaves the row as it is
-  pub fill-skip : getD a n 0 ≡ f n → l ≡ fill f (n + 1) a
-  fill-skip p = sym (set-getD l n 0) ∙ fill-more (getD l n 0) (ap (λ (x : List ℕ). getD x n 0) e ∙ fill-above f n a n (le-refl n) ∙ p)
 
   -- a row not reached yet
   pub fill-next : getD l n 0 ≡ getD a n 0

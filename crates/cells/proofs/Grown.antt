@@ -3,13 +3,16 @@ use mathlib.Core.Path.{_≡_, sym, _∙_, subst}
 use mathlib.Core.Logic.{_⊎_, inl, inr, ⊎-elim}
 use mathlib.Core.List.{List}
 use Prim.Native.Nat.{ℕ, zero, suc, _*_, _/_, _%_, _^_, _<_, _≤_}
-use native.Mathlib.Nat.{not-suc-le-zero}
+use native.Mathlib.Nat.{not-suc-le-zero, le-refl}
+use native.Mathlib.Decide.{decLt}
 use native.Mathlib.Omega.{arith}
-use lib.Bits.{bitAnd, bitOr, or-add-and, and-le-r}
+use lib.Bits.{bitAnd, bitOr, or-add-and, and-le-l, and-le-r}
+use lib.Count.{trailingZeros}
 use lib.ListN.{getD}
 use Rattle.cells.specs.Cells.{digit}
 use Rattle.cells.specs.Rows.{In}
 use Rattle.cells.specs.Growing.{around, grownRow, Near, to-left, to-right, to-up, to-down, to-up-right, to-down-left, Linked, own, next, Framed}
+use Rattle.cells.proofs.Smallest.{trailing-one}
 use Rattle.cells.proofs.Digits.{or-l, or-r, or-one, and-both, and-l, and-r, digit-half, digit-double, digit-double-zero, digit-mod}
 
 -- which places of a row touch
@@ -136,13 +139,58 @@ module _ (s a : List ℕ) (k : ℕ) where
     at-takes d r e n i =
         row-takes (getD s (suc k) 0) (getD a k 0) (getD a (suc k) 0) (getD a (suc (suc k)) 0) c (fr .inside c (suc k) i .2) i (near-touch e n)
 
+-- row k + 1 takes nothing in: every cell of s in it that is beside a place that is there is there
+abbrev pub TakesNone : (s a : List ℕ) → ℕ → Type 0
+TakesNone s a k = (c d r : ℕ) → In a d r → Near d r c (suc k) → In s c (suc k) → In a c (suc k)
+
+-- as where it grows to itself
+pub takes-none : (rows : ℕ) (s a : List ℕ) (k : ℕ) → Framed rows s → grownAt s a k ≡ getD a (suc k) 0 → TakesNone s a k
+takes-none rows s a k fr e c d r i n j = subst (λ (x : ℕ). digit x c ≡ 1) e (at-takes s a k rows fr c d r i n j)
+
+-- nor where another row stands below it, from which it takes nothing in
+pub takes-none-on : (s a b : List ℕ) (k : ℕ) → TakesNone s a k → ((r : ℕ) → r ≤ suc k → getD b r 0 ≡ getD a r 0)
+    → ((c : ℕ) → In b c (suc (suc k)) → In s c (suc k) → In a c (suc k)) → ((c : ℕ) → In b c (suc (suc k)) → In s (suc c) (suc k) → In a (suc c) (suc k))
+    → TakesNone s b k
+takes-none-on s a b k none same up up-right c d r i n j = rw (same (suc k) (le-refl (suc k))) (go n i j)
+  where
+    go : {c d r : ℕ} → Near d r c (suc k) → In b d r → In s c (suc k) → In a c (suc k)
+    go {c} {d} to-left i j = none c d (suc k) (rw (same (suc k) (le-refl (suc k))) at i) to-left j
+    go {c} {d} to-right i j = none c d (suc k) (rw (same (suc k) (le-refl (suc k))) at i) to-right j
+    go {c} {d} to-up i j = up d i j
+    go {c} {d} to-down i j = none c d k (rw (same k (omega arith)) at i) to-down j
+    go {c} {d} to-up-right i j = up-right d i j
+    go {c} {d} to-down-left i j = none c d k (rw (same k (omega arith)) at i) to-down-left j
+
+-- which is so where it grows to itself from that row
+module _ (rows : ℕ) (s : List ℕ) (fr : Framed rows s) (k h d : ℕ) (e : grownRow (getD s (suc k) 0) 0 h d ≡ h) (c : ℕ) where
+  pub none-up : digit d c ≡ 1 → In s c (suc k) → digit h c ≡ 1
+  none-up i j = subst (λ (x : ℕ). digit x c ≡ 1) e (row-takes (getD s (suc k) 0) 0 h d c (fr .inside c (suc k) j .2) j (from-down i))
+
+  pub none-up-right : digit d c ≡ 1 → In s (suc c) (suc k) → digit h (suc c) ≡ 1
+  none-up-right i j =
+      subst (λ (x : ℕ). digit x (suc c) ≡ 1) e (row-takes (getD s (suc k) 0) 0 h d (suc c) (fr .inside (suc c) (suc k) j .2) j (from-down-left i))
+
 -- a set none of whose rows takes anything in has all that its start is linked to
-pub closed : (rows : ℕ) (s a r : List ℕ) → Framed rows s → ((k : ℕ) → k < rows → grownAt s r k ≡ getD r (suc k) 0) → ((c k : ℕ) → In a c k → In r c k)
+pub closed : (rows : ℕ) (s a r : List ℕ) → Framed rows s → ((k : ℕ) → k < rows → TakesNone s r k) → ((c k : ℕ) → In a c k → In r c k)
     → (c k : ℕ) → Linked s a c k → In r c k
 closed rows s a r fr e h c k (own i) = h c k i
 closed rows s a r fr e h c zero (next l n i) = absurd (not-suc-le-zero (fr .inside c 0 i .0))
 closed rows s a r fr e h c (suc k) (next {c = c₀} {r = k₀} l n i) =
-    subst (λ (x : ℕ). digit x c ≡ 1) (e k (fr .inside c (suc k) i .1)) (at-takes s r k rows fr c c₀ k₀ (closed rows s a r fr e h c₀ k₀ l) n i)
+    e k (fr .inside c (suc k) i .1) c c₀ k₀ (closed rows s a r fr e h c₀ k₀ l) n i
+
+-- row 0, where s has no cell, grows to itself
+pub top-keeps : (rows : ℕ) (s : List ℕ) (h d : ℕ) → Framed rows s → grownRow (getD s 0 0) 0 h d < 2 ^ 32 → grownRow (getD s 0 0) 0 h d ≡ h
+unfolding grownRow
+top-keeps rows s h d fr w =
+    let t : ℕ = bitAnd (getD s 0 0) (around 0 h d) in
+    let small : t < 2 ^ 32 = omega (arith, w, or-add-and h t, and-le-l h t) in
+    let nothing : 0 < t → ⊥ =
+    λ p. not-suc-le-zero (fr .inside (trailingZeros 32 t) 0 (and-l (getD s 0 0) (around 0 h d) (trailingZeros 32 t) (trailing-one 32 t small p)) .0) in
+    go (decLt 0 t) nothing
+  where
+    go : Dec (0 < bitAnd (getD s 0 0) (around 0 h d)) → (0 < bitAnd (getD s 0 0) (around 0 h d) → ⊥) → bitOr h (bitAnd (getD s 0 0) (around 0 h d)) ≡ h
+    go (yes p) n = absurd (n p)
+    go (no p) n = omega (arith, or-add-and h (bitAnd (getD s 0 0) (around 0 h d)), and-le-r h (bitAnd (getD s 0 0) (around 0 h d)))
 
 -- what is linked to places that are linked to a start is linked to the start
 pub linked-through : {s a b : List ℕ} {c k : ℕ} → ((d m : ℕ) → In b d m → Linked s a d m) → Linked s b c k → Linked s a c k

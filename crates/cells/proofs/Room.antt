@@ -6,7 +6,11 @@ use native.Mathlib.Nat.{suc-inj, suc-ne-zero}
 use native.Mathlib.Decide.{ℕ-discrete}
 use native.Mathlib.Omega.{arith}
 use lib.ListN.{length, getD}
-use Rattle.cells.specs.Growing.{room}
+
+-- what each row lacks of 2 ^ 32, summed: it falls as the rows grow
+unfoldable pub room : List ℕ → ℕ
+room [] = 0
+room (x ∷ l) = 2 ^ 32 - x + room l
 
 room-le : (a b : List ℕ) → length a ≡ length b → ((k : ℕ) → getD a k 0 ≤ getD b k 0) → room b ≤ room a
 unfolding room

@@ -67,7 +67,7 @@ smallest-held b set h = go (smallest b set) refl
 
 -- ---- the lowest digit of a word
 
-trailing-one : (k n : ℕ) → n < 2 ^ k → 0 < n → digit n (trailingZeros k n) ≡ 1
+pub trailing-one : (k n : ℕ) → n < 2 ^ k → 0 < n → digit n (trailingZeros k n) ≡ 1
 unfolding trailingZeros
 trailing-one zero n h l = omega arith
 trailing-one (suc k) n h l = go (n % 2) refl (λ p. trailing-one k (n / 2) p)

@@ -1,9 +1,7 @@
 -- How the joining test grows the reached set of places, a row at a time, until no row takes anything in.
-use mathlib.Core.Path.{_≡_}
-use mathlib.Core.List.{List, [], _∷_}
-use Prim.Native.Nat.{ℕ, suc, _+_, _-_, _*_, _/_, _%_, _^_, _<_, _≤_}
+use mathlib.Core.List.{List}
+use Prim.Native.Nat.{ℕ, suc, _*_, _/_, _%_, _^_, _<_, _≤_}
 use lib.Bits.{bitAnd, bitOr}
-use lib.ListN.{length, getD}
 use Rattle.cells.specs.Rows.{In}
 
 -- the places in a row that touch one of the row h itself, of the row u above or of the row d below
@@ -14,11 +12,6 @@ around u h d = bitOr (bitOr (h * 2 % 2 ^ 32) (h / 2)) (bitOr (bitOr u (u / 2)) (
 unfoldable pub grownRow : ℕ → ℕ → ℕ → ℕ → ℕ
 unfolding around
 grownRow s u h d = bitOr h (bitAnd s (around u h d))
-
--- a set's 21 words, of 32 bits each
-pub record Words (a : List ℕ) : Type 0 where
-  pub long : length a ≡ 21
-  pub fits : (k : ℕ) → getD a k 0 < 2 ^ 32
 
 -- the six neighbours of a place (column, row), the second place
 pub data Near : ℕ → ℕ → ℕ → ℕ → Type 0 where
@@ -42,8 +35,3 @@ pub record Framed (rows : ℕ) (s : List ℕ) : Type 0 where
 pub record Closure (s a r : List ℕ) : Type 0 where
   pub sound : (c k : ℕ) → In r c k → Linked s a c k
   pub whole : (c k : ℕ) → Linked s a c k → In r c k
-
--- what each row lacks of 2 ^ 32, summed: it falls as the rows grow
-unfoldable pub room : List ℕ → ℕ
-room [] = 0
-room (x ∷ l) = 2 ^ 32 - x + room l

@@ -94,8 +94,8 @@ fn grow_row(cells: u32, up: u32, here: u32, down: u32) -> u32
     here | (cells & (((here << 1) | (here >> 1)) | ((up | (up >> 1)) | (down | (down << 1)))))
 }
 
-// All that a set grows to inside the cells, which stand in the first rows. The rows are settled from the top; where one takes cells in,
-// the row above it is looked at again.
+// All that a set grows to inside the cells, which stand in the first rows. The rows are settled from the top, each until it takes no more in;
+// where the row above takes in a cell that touches them, that one is settled again first.
 fn closure(cells: Cells, a: Cells, rows: usize) -> Cells
     requires { ⌜ (rows ≤ 19) × Framed rows (cells .rows) ⌝ }
     ensures { λ r. ⌜ Closure (cells .rows) (a .rows) (r .rows) ⌝ }
@@ -107,8 +107,9 @@ fn closure(cells: Cells, a: Cells, rows: usize) -> Cells
         if word == words[row] {
             row += 1;
         } else {
+            let above = words[row - 1];
             words[row] = word;
-            if row > 1 {
+            if grow_row(cells.rows[row - 1], 0, above, word) != above {
                 row -= 1;
             }
         }

@@ -16,7 +16,7 @@ use Rattle.rules.specs.Fair.{inMove, holding, inEvery, notApart, notElus
 use Rattle.rules.specs.Outcomes.{eachWithEach, outcomes, outcomeCount, outcomesOfWaits, outcomesOfMoves, countOfWaits, countOfMoves}
 use Rattle.rules.specs.Choice.{the-first, one-later}
 use Rattle.rules.specs.Answering.{smallestLine, firstLine, touchedAnswer, freeAnswer, answer, start, mine, isOver, isTaken, isEmpty, next, answeredBy, answered}
-use Rattle.rules.specs.Entries.{_>>=_, refuseIf, refuseFault, refuseUnjoined, readTextUpTo, readUpTo, read, fair, satisfying, accepted, counts, judged, judge, step, rounds, refusedPlay, playedOut, playOn, play, outcomeCells, named, outcome, workspaceAfter, roomAfter, playShown, outcomeShown}
+use Rattle.rules.specs.Entries.{_>>=_, refuseIf, refuseFault, refuseUnjoined, readTextUpTo, readUpTo, fair, satisfying, accepted, counts, judged, judge, step, rounds, refusedPlay, playedOut, playOn, play, outcomeCells, named, outcome, workspaceAfter, roomAfter, playShown, outcomeShown}
 use Rattle.rules.specs.Holder.{allowed}
 use Rattle.rules.specs.declared.Verdict.the-variants.{NoSuchCell}
 use Rattle.rules.specs.Samples.{byteOf, sheet, toldOf, reply, P1, P3, p1, p3, large, table, traps, replies, expected}

@@ -12,7 +12,7 @@ use Rattle.rules.specs.Text.{Bytes}
 use Rattle.rules.specs.Tree.{Sheet}
 use Rattle.rules.specs.Reading.{Result, refused, got}
 use Rattle.rules.specs.Answering.{start}
-use Rattle.rules.specs.Entries.{_>>=_, refuseIf, readText, readUpTo, read, accepted, rounds, PlayReply, refusedPlay, playedOut, playOn, play, playShown, workspaceAfter, roomAfter, PlayKept}
+use Rattle.rules.specs.Entries.{_>>=_, refuseIf, readText, readUpTo, accepted, rounds, PlayReply, refusedPlay, playedOut, playOn, play, playShown, workspaceAfter, roomAfter, PlayKept}
 use Rattle.rules.specs.declared.Board.{Board}
 use Rattle.rules.specs.declared.Player.{Player}
 use Rattle.rules.specs.declared.Played.{Played}

@@ -2,14 +2,13 @@
 -- 2 ^ 32 falls.
 use borrow.Author.Needs.{needs}
 use mathlib.Core.Path.{sym, _∙_}
-use mathlib.Core.List.{List}
 use Prim.Native.Nat.{ℕ, _+_, _-_, _*_, _^_, _<_, _≤_}
 use native.Mathlib.Omega.{arith}
 use lib.ListN.{getD, set}
 use mir.Val.{Fits}
 use mir.Syntax.{w32}
-use Rattle.cells.specs.Growing.{room}
-use Rattle.cells.proofs.Growing.{Settled, settled-none, settled-more, settled-back, settled-room, settled-all}
+use Rattle.cells.proofs.Growing.{Settled, settled-none, settled-more, settled-back, settled-here, settled-room, not-top, settled-all}
+use Rattle.cells.proofs.Room.{room}
 use Rattle.cells.proofs.closure.Statement.{statement}
 use Rattle.cells.proofs.closure.Tie as tie
 
@@ -74,7 +73,16 @@ loop-less c = search needs
 loop-again : tie.Need-loop-again Inv-loop μ-loop
 loop-again c =
     let l = c .before .before .before .before .loop in
-    (omega arith, omega arith, settled-more (l .inv .2) (l .inv .0) (sym (c .before .grow-row .ensures) ∙ c .if1 .taken))
+    (omega arith, omega arith, settled-more _ _ (l .inv .2) (l .inv .0) (c .before .before .before .before .before .before .pre .1) (sym (c .if1 .taken) ∙ c .before .grow-row .ensures))
+
+sub-above : tie.Need-sub-above Inv-loop μ-loop
+sub-above c = search needs
+
+mul-above : tie.Need-mul-above Inv-loop μ-loop
+mul-above c = search needs
+
+array-read-above : tie.Need-array-read-above Inv-loop μ-loop
+array-read-above c = search needs
 
 mul-words : tie.Need-mul-words Inv-loop μ-loop
 mul-words c = search needs
@@ -82,54 +90,66 @@ mul-words c = search needs
 array-write-words : tie.Need-array-write-words Inv-loop μ-loop
 array-write-words c = search needs
 
-sub-row : tie.Need-sub-row Inv-loop μ-loop
-sub-row c = search needs
+sub-grow-row-2 : tie.Need-sub-grow-row-2 Inv-loop μ-loop
+sub-grow-row-2 c = search needs
+
+mul-grow-row-5 : tie.Need-mul-grow-row-5 Inv-loop μ-loop
+mul-grow-row-5 c = search needs
+
+element-copy-out-grow-row-2 : tie.Need-element-copy-out-grow-row-2 Inv-loop μ-loop
+element-copy-out-grow-row-2 c = search needs
+
+grow-row-requires-2 : tie.Need-grow-row-requires-2 Inv-loop μ-loop
+grow-row-requires-2 c κs = search needs
 
 -- a row that took cells in: what is settled then, and that there is less room
 module _ (c : tie.Else1 Inv-loop μ-loop) where
-  abbrev rows : List ℕ
-  rows = c .before .before .before .before .loop .words
-
-  abbrev row : ℕ
-  row = c .before .before .before .before .loop .row
-
-  abbrev later : List ℕ
-  later = set rows row (c .before .grow-row .result)
-
-  few : row < 21
+  few : c .before .before .before .before .loop .row < 21
   few = omega (arith, c .before .before .before .loop-test .taken, c .before .before .before .before .before .before .pre .0)
 
   fits : c .before .grow-row .result < 2 ^ 32
   fits = search needs
 
-  back : (row′ : ℕ) → row′ ≤ row - 2 + 1
-      → Settled (c .before .before .before .before .before .before .args .t1 .rows) (c .before .before .before .before .before .before .args .a .rows) row′ later
-  back row′ h =
-      let l = c .before .before .before .before .loop in
-      settled-back fits _ row row′ (l .inv .2) (l .inv .0) few (c .before .before .before .before .before .before .pre .1) (c .before .grow-row .ensures) h
-
-  less : room later < room rows
+  less : room (set (c .before .before .before .before .loop .words) (c .before .before .before .before .loop .row) (c .before .grow-row .result))
+      < room (c .before .before .before .before .loop .words)
   less =
       let l = c .before .before .before .before .loop in
-      settled-room fits row (l .inv .2) (l .inv .0) few (c .before .grow-row .ensures) (c .if1 .left)
+      settled-room fits (l .row) (l .inv .2) (l .inv .0) few (c .before .grow-row .ensures) (c .if1 .left)
+
+-- the row above took some of them in
+below-top : (c : tie.Then2 Inv-loop μ-loop) → 2 ≤ c .before .before .before .before .before .before .before .loop .row
+below-top c =
+    let l = c .before .before .before .before .before .before .before .loop in
+    not-top _ (l .row) _ _ (c .before .before .before .before .before .before .before .before .before .pre .1) (l .inv .0) (search needs) (c .before .grow-row2 .ensures) (c .if2 .taken)
+
+sub-row : tie.Need-sub-row Inv-loop μ-loop
+sub-row c = omega (arith, below-top c)
 
 loop-less-2 : tie.Need-loop-less-2 Inv-loop μ-loop
 loop-less-2 c =
-    let l = c .before .before .before .before .before .loop in
-    omega (arith, less (c .before), l .inv .1, c .if2 .taken)
+    let l = c .before .before .before .before .before .before .before .loop in
+    omega (arith, less (c .before .before .before), l .inv .1, below-top c)
 
 loop-again-2 : tie.Need-loop-again-2 Inv-loop μ-loop
 loop-again-2 c =
-    let l = c .before .before .before .before .before .loop in
-    (omega (arith, c .if2 .taken), omega (arith, l .inv .1), back (c .before) _ (omega arith))
+    let e = c .before .before .before in
+    let l = e .before .before .before .before .loop in (
+      omega (arith, below-top c),
+      omega (arith, l .inv .1),
+      settled-back (fits e) _ (l .row) (l .inv .2) (l .inv .0) (few e) (e .before .before .before .before .before .before .pre .1) (e .before .grow-row .ensures),
+    )
 
 loop-less-3 : tie.Need-loop-less-3 Inv-loop μ-loop
-loop-less-3 c = omega (arith, less (c .before))
+loop-less-3 c = omega (arith, less (c .before .before .before))
 
 loop-again-3 : tie.Need-loop-again-3 Inv-loop μ-loop
 loop-again-3 c =
-    let l = c .before .before .before .before .before .loop in
-    (l .inv .0, l .inv .1, back (c .before) _ (omega (arith, c .if2 .left)))
+    let e = c .before .before .before in
+    let l = e .before .before .before .before .loop in (
+      l .inv .0,
+      l .inv .1,
+      settled-here (fits e) _ (l .row) (l .inv .2) (l .inv .0) (few e) (e .before .before .before .before .before .before .pre .1) (e .before .grow-row .ensures) (sym (c .before .grow-row2 .ensures) ∙ c .if2 .left),
+    )
 
 returns : tie.Need-returns Inv-loop μ-loop
 returns c =
@@ -159,8 +179,15 @@ closure-spec =
     add-row
     loop-less
     loop-again
+    sub-above
+    mul-above
+    array-read-above
     mul-words
     array-write-words
+    sub-grow-row-2
+    mul-grow-row-5
+    element-copy-out-grow-row-2
+    grow-row-requires-2
     sub-row
     loop-less-2
     loop-again-2
