@@ -30,13 +30,14 @@ pub settled-none : (s : List ℕ) {a : List ℕ} → Words a → Settled s a 1 a
 settled-none s w = record { kept = w; sound = λ c k i. own i; holds = λ c k i. i; settled = λ k h. absurd (omega (arith, h)) }
 
 -- the word of a row as the code makes it
-word-is : (s words : List ℕ) {word : ℕ} (row : ℕ) → word ≡ grownRow (getD s (suc row) 0) (getD words (suc row - 1) 0) (getD words (suc row) 0) (getD words (suc row + 1) 0)
-    → word ≡ grownAt s words row
+abbrev pub grownHere : (s words : List ℕ) → ℕ → ℕ
+grownHere s words row = grownRow (getD s row 0) (getD words (row - 1) 0) (getD words row 0) (getD words (row + 1) 0)
+
+word-is : (s words : List ℕ) {word : ℕ} (row : ℕ) → word ≡ grownHere s words (suc row) → word ≡ grownAt s words row
 word-is s words row e = rw (add-one, sub-one) at e
 
 -- a row that takes nothing in
-pub settled-more : {s a words : List ℕ} (rows row : ℕ) → Settled s a row words → 1 ≤ row → Framed rows s
-    → getD words row 0 ≡ grownRow (getD s row 0) (getD words (row - 1) 0) (getD words row 0) (getD words (row + 1) 0) → Settled s a (row + 1) words
+pub settled-more : {s a words : List ℕ} (rows row : ℕ) → Settled s a row words → 1 ≤ row → Framed rows s → getD words row 0 ≡ grownHere s words row → Settled s a (row + 1) words
 settled-more rows zero g h fr e = absurd (omega arith)
 settled-more {s} {a} {words} rows (suc row) g h fr e =
     record { kept = g .kept; sound = g .sound; holds = g .holds; settled = λ k l. go k l (ℕ-discrete k row) }
@@ -98,15 +99,13 @@ module _ {s a words : List ℕ} {row : ℕ} (g : Settled s a (suc row) words) (f
 
 -- the same of the word that the code makes: what is settled then, from the row above on or from the row itself, and that there is less room
 module _ {s a words : List ℕ} {word : ℕ} (fits : word < 2 ^ 32) where
-  pub settled-back : (rows row : ℕ) → Settled s a row words → 1 ≤ row → row < 21 → Framed rows s
-      → word ≡ grownRow (getD s row 0) (getD words (row - 1) 0) (getD words row 0) (getD words (row + 1) 0) → Settled s a (row - 1) (set words row word)
+  pub settled-back : (rows row : ℕ) → Settled s a row words → 1 ≤ row → row < 21 → Framed rows s → word ≡ grownHere s words row → Settled s a (row - 1) (set words row word)
   settled-back rows zero g h few fr e = absurd (omega arith)
   settled-back rows (suc row) g h few fr e =
       let i = word-is s words row e in
       rw i (grows g (omega arith) rows (suc row - 1) fr (subst (λ (x : ℕ). x < 2 ^ 32) i fits) (λ k l. still g (omega arith) k (omega arith)))
 
-  pub settled-here : (rows row : ℕ) → Settled s a row words → 1 ≤ row → row < 21 → Framed rows s
-      → word ≡ grownRow (getD s row 0) (getD words (row - 1) 0) (getD words row 0) (getD words (row + 1) 0)
+  pub settled-here : (rows row : ℕ) → Settled s a row words → 1 ≤ row → row < 21 → Framed rows s → word ≡ grownHere s words row
       → grownRow (getD s (row - 1) 0) 0 (getD words (row - 1) 0) word ≡ getD words (row - 1) 0 → Settled s a row (set words row word)
   settled-here rows zero g h few fr e f = absurd (omega arith)
   settled-here rows (suc row) g h few fr e f =
@@ -117,8 +116,8 @@ module _ {s a words : List ℕ} {word : ℕ} (fits : word < 2 ^ 32) where
       go k l (yes is) = kept-up g (omega arith) rows k fr is (rw (sub-one, word-is s words row e) at f)
       go k l (no apart) = still g (omega arith) k (omega arith)
 
-  pub settled-room : (row : ℕ) → Settled s a row words → 1 ≤ row → row < 21
-      → word ≡ grownRow (getD s row 0) (getD words (row - 1) 0) (getD words row 0) (getD words (row + 1) 0) → ¬ (word ≡ getD words row 0) → room (set words row word) < room words
+  pub settled-room : (row : ℕ) → Settled s a row words → 1 ≤ row → row < 21 → word ≡ grownHere s words row → ¬ (word ≡ getD words row 0)
+      → room (set words row word) < room words
   settled-room zero g h few e new = absurd (omega arith)
   settled-room (suc row) g h few e new =
       let i = word-is s words row e in

@@ -143,11 +143,11 @@ module _ (s a : List ℕ) (k : ℕ) where
 abbrev pub TakesNone : (s a : List ℕ) → ℕ → Type 0
 TakesNone s a k = (c d r : ℕ) → In a d r → Near d r c (suc k) → In s c (suc k) → In a c (suc k)
 
--- as where it grows to itself
+-- so it is where the row grows to itself
 pub takes-none : (rows : ℕ) (s a : List ℕ) (k : ℕ) → Framed rows s → grownAt s a k ≡ getD a (suc k) 0 → TakesNone s a k
 takes-none rows s a k fr e c d r i n j = subst (λ (x : ℕ). digit x c ≡ 1) e (at-takes s a k rows fr c d r i n j)
 
--- nor where another row stands below it, from which it takes nothing in
+-- and still where another row stands below it, from which it takes nothing in
 pub takes-none-on : (s a b : List ℕ) (k : ℕ) → TakesNone s a k → ((r : ℕ) → r ≤ suc k → getD b r 0 ≡ getD a r 0)
     → ((c : ℕ) → In b c (suc (suc k)) → In s c (suc k) → In a c (suc k)) → ((c : ℕ) → In b c (suc (suc k)) → In s (suc c) (suc k) → In a (suc c) (suc k))
     → TakesNone s b k
@@ -161,7 +161,7 @@ takes-none-on s a b k none same up up-right c d r i n j = rw (same (suc k) (le-r
     go {c} {d} to-up-right i j = up-right d i j
     go {c} {d} to-down-left i j = none c d k (rw (same k (omega arith)) at i) to-down-left j
 
--- which is so where it grows to itself from that row
+-- as where it grows to itself from that row
 module _ (rows : ℕ) (s : List ℕ) (fr : Framed rows s) (k h d : ℕ) (e : grownRow (getD s (suc k) 0) 0 h d ≡ h) (c : ℕ) where
   pub none-up : digit d c ≡ 1 → In s c (suc k) → digit h c ≡ 1
   none-up i j = subst (λ (x : ℕ). digit x c ≡ 1) e (row-takes (getD s (suc k) 0) 0 h d c (fr .inside c (suc k) j .2) j (from-down i))

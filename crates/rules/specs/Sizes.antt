@@ -1,7 +1,7 @@
 -- Every size that document 01 names, each in its one place.
 use Prim.Native.Nat.{ℕ}
 
--- a board has 1 to 19 columns and 1 to 19 rows
+-- a board has 1 to 19 columns and 1 to 19 rows (document 02, C-17; before it 13)
 abbrev pub largest : ℕ
 largest = 19
 

@@ -18,7 +18,7 @@ use Rattle.rules.specs.declared.Player.{Player}
 use Rattle.rules.specs.declared.Verdict.{Verdict}
 use Rattle.rules.specs.declared.Verdict.the-variants.{BadHeader, BadLine, OffBoard, TooManyNodes, TooDeep, Unfinished, TextAfter}
 
--- a board has 1 to so many columns and rows: to 19
+-- a board has 1 to so many columns and rows; the largest has 19
 pub record BoardUpTo (most : ℕ) (b : Board) : Type 0 where
   pub columns : (1 ≤ b .columns) × (b .columns ≤ most)
   pub rows : (1 ≤ b .rows) × (b .rows ≤ most)
