@@ -2,6 +2,7 @@
 -- hypotheses of the theorems.
 use mathlib.Core.Path.{_≡_, refl}
 use mathlib.Core.Bool.{not}
+use mathlib.Core.List.{[], _∷_}
 use mathlib.Core.Option.{some}
 use lib.Dec.{T}
 use Rattle.rules.specs.Sizes.{leastWorkspace}
@@ -25,11 +26,15 @@ use Rattle.rules.specs.Samples.{byteOf, sheet, toldOf, reply, P1, P3, p1
 abbrev Opens : Type 0
 Opens = T (not (isOver p1 (start p1))) × T (isEmpty p1 (start p1) 3) × T (allowed 3 (p1 .root .waits) (the-first (one-later (the-first tt))))
 
+-- on 19 by 19 the opponent may move to 361, the answer is 1, and 362 is no cell
+abbrev LastCell : Type 0
+LastCell = (step large (start large) 361 ≡ got (answered (start large) 361)) × (answered (start large) 361 .answers ≡ 1 ∷ []) × (step large (start large) 362 ≡ refused NoSuchCell)
+
 computed : (replies table ≡ expected table) × (replies traps ≡ expected traps) × (accepted leastWorkspace (sheet P1) ≡ got p1) × Opens × (readSheet (sheet P3) ≡ got p3)
     × (headerLine (sheet P1) ≡ some (record { board = p1 .board; player = p1 .player }, sheet "m b1 1/w 2/m a2 0/m b2 0/"))
-    × (step large (start large) 361 ≡ got (answered (start large) 361)) × (step large (start large) 362 ≡ refused NoSuchCell)
+    × LastCell
 unfolding among keep any upTo firstOrNone oneIf onBoard cellAt cells isCell columnOf rowOf there around neighbours onFirstSide onLastSide listed smallest touches grow reachedIn joined bind give guard _orElse_ anyByte byte word tab lineFeed isDigit digits afterDigits spelled wellSpelled number numberIn player headerUpTo letter place moveLine dashLine waitLine asWaits asMoves stone everyMove everyWait moveCount waitCount movesOfWaits movesOfMoves waitsOfWaits waitsOfMoves go give·Reading within cellOf refuseHere lineHere nodeHere thisSpot isNothing nodeLine inTurn ended readBody headed readSheetUpTo readMove readWait inMove holding inEvery notApart notElusive faultAt firstFault firstNotApart firstNotElusive inWaits inMoves eachWithEach outcomes outcomeCount outcomesOfWaits outcomesOfMoves countOfWaits countOfMoves allowed smallestLine firstLine touchedAnswer freeAnswer answer start mine isOver isTaken isEmpty next answeredBy answered _>>=_ refuseIf refuseFault refuseUnjoined readUpTo readTextUpTo fair satisfying accepted counts judged judge step rounds refusedPlay playedOut playOn play outcomeCells named outcome workspaceAfter roomAfter playShown outcomeShown byteOf sheet toldOf reply table traps replies expected
-computed = (refl, refl, refl, (tt, tt, tt), refl, refl, refl, refl)
+computed = (refl, refl, refl, (tt, tt, tt), refl, refl, (refl, refl, refl))
 
 pub samples : replies table ≡ expected table
 samples = computed .0
@@ -51,6 +56,5 @@ p3-read = computed .4
 pub p1-header : headerLine (sheet P1) ≡ some (record { board = p1 .board; player = p1 .player }, sheet "m b1 1/w 2/m a2 0/m b2 0/")
 p1-header = computed .5
 
--- on 19 by 19 the opponent may move to 361, and 362 is no cell
-pub last-cell : (step large (start large) 361 ≡ got (answered (start large) 361)) × (step large (start large) 362 ≡ refused NoSuchCell)
-last-cell = (computed .6, computed .7)
+pub last-cell : LastCell
+last-cell = computed .6

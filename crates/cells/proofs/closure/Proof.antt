@@ -102,7 +102,7 @@ element-copy-out-grow-row-2 c = search needs
 grow-row-requires-2 : tie.Need-grow-row-requires-2 Inv-loop μ-loop
 grow-row-requires-2 c κs = search needs
 
--- a row that took cells in: what is settled then, and that there is less room
+-- a row that took cells in: there is less room
 module _ (c : tie.Else1 Inv-loop μ-loop) where
   few : c .before .before .before .before .loop .row < 21
   few = omega (arith, c .before .before .before .loop-test .taken, c .before .before .before .before .before .before .pre .0)
