@@ -1,18 +1,17 @@
 //! Section "The answering rule": one game played by a sheet.
 
-use crate::board::{Board, Player};
 use crate::fair::{cells_of_move, cells_of_wait};
 use crate::fault::{self, Fault};
 use crate::joining::joins;
+use crate::set_up::Side;
 use crate::sheet::{Move, Sheet, Wait};
 use crate::verdict::Verdict;
 use std::collections::BTreeSet;
 
-/// A game: the stones of both sides, the open waits and whether play is over.
+/// A game by a sheet: the stones played by both sides, the open waits and whether play is over.
 #[derive(Clone)]
 pub struct Game<'a> {
-    board: Board,
-    player: Player,
+    sheet: &'a Sheet,
     mine: Vec<usize>,
     theirs: Vec<usize>,
     open: Vec<&'a Wait>,
@@ -20,16 +19,10 @@ pub struct Game<'a> {
 }
 
 impl<'a> Game<'a> {
-    /// Starts with the root's stone, if any, and the root's waits open.
+    /// Starts from the stones set up with the root's stone, if any, and the root's waits open.
     pub fn start(sheet: &'a Sheet) -> Game<'a> {
-        let mut game = Game {
-            board: sheet.board,
-            player: sheet.player,
-            mine: Vec::new(),
-            theirs: Vec::new(),
-            open: Vec::new(),
-            over: false,
-        };
+        let mut game =
+            Game { sheet, mine: Vec::new(), theirs: Vec::new(), open: Vec::new(), over: false };
         game.make(&sheet.root);
         game
     }
@@ -43,9 +36,13 @@ impl<'a> Game<'a> {
         self.over = !fault::on(Fault::OverLate) && self.joined();
     }
 
-    /// Says whether the player's stones join.
+    /// Says whether the player's stones join, the own ones set up among them.
     pub fn joined(&self) -> bool {
-        joins(self.board, self.player, &self.mine)
+        let mut stones = self.mine.clone();
+        if !fault::on(Fault::OwnNotInPlay) {
+            stones.extend(self.sheet.set_up.cells(Side::Own));
+        }
+        joins(self.sheet.board, self.sheet.player, &stones)
     }
 
     /// Says whether play is over.
@@ -55,7 +52,7 @@ impl<'a> Game<'a> {
 
     /// Refuses an opponent's move that may not be made: 15, then 16, then 17.
     pub fn refusal(&self, cell: usize) -> Option<Verdict> {
-        let off = cell == 0 || cell > self.board.size();
+        let off = cell == 0 || cell > self.sheet.board.size();
         if off && fault::on(Fault::LimitBeforeOver) {
             return Some(Verdict::NoSuchCell);
         }
@@ -66,7 +63,15 @@ impl<'a> Game<'a> {
             return Some(Verdict::NoSuchCell);
         }
         let own = self.mine.contains(&cell) && !fault::on(Fault::OwnStonesFree);
-        (own || self.theirs.contains(&cell)).then_some(Verdict::Taken)
+        let taken = own || self.theirs.contains(&cell) || self.set_up_holds(cell);
+        taken.then_some(Verdict::Taken)
+    }
+
+    /// Says whether a cell was taken from the start by a stone set up.
+    fn set_up_holds(&self, cell: usize) -> bool {
+        let has = |side| self.sheet.set_up.cells(side).any(|stone| stone == cell);
+        (has(Side::Own) && !fault::on(Fault::OwnSetUpFree))
+            || (has(Side::Opp) && !fault::on(Fault::OppSetUpFree))
     }
 
     /// Puts the opponent's stone and gives the answering cell.
@@ -108,10 +113,11 @@ impl<'a> Game<'a> {
 
     /// Lists the empty cells, those of open waits before the free ones, with the number of the former.
     pub fn empty_cells(&self) -> (Vec<usize>, usize) {
-        let empty = |cell: &usize| !self.mine.contains(cell) && !self.theirs.contains(cell);
+        let played = |cell: &usize| self.mine.contains(cell) || self.theirs.contains(cell);
+        let empty = |cell: &usize| !played(cell) && !self.set_up_holds(*cell);
         let waited: BTreeSet<usize> =
             self.open.iter().flat_map(|wait| cells_of_wait(wait)).collect();
-        let cells = (1..=self.board.size()).filter(empty);
+        let cells = (1..=self.sheet.board.size()).filter(empty);
         let (mut held, free): (Vec<usize>, Vec<usize>) =
             cells.partition(|cell| waited.contains(cell));
         let count = held.len();
@@ -119,7 +125,7 @@ impl<'a> Game<'a> {
         (held, count)
     }
 
-    /// Gives the stones of the player and of the opponent.
+    /// Gives the stones played by the player and by the opponent.
     pub fn stones(&self) -> (&[usize], &[usize]) {
         (&self.mine, &self.theirs)
     }

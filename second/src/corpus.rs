@@ -4,9 +4,12 @@ use crate::answering::Game;
 use crate::entries::{self, WORKSPACE};
 use crate::maker::Maker;
 use crate::outcomes::count_of_move;
-use crate::recipes::{schedule, Recipe, DAMAGED, DEAR, GOOD, LIMITS, UNFAIR, UNJOINED};
+use crate::recipes::{schedule, Recipe};
+use crate::recipes::{DAMAGED, DEAR, GOOD, LIMITS, UNFAIR, UNJOINED};
+use crate::recipes::{SET_UP, SET_UP_DAMAGED, SET_UP_UNJOINED};
 use crate::requests::{Ask, Request};
 use crate::rng::Rng;
+use crate::set_up::Side;
 use crate::sheet::{self, Sheet};
 
 /// The seed of a corpus and how many requests of each kind it has.
@@ -20,9 +23,11 @@ pub struct Sizes {
 /// Makes all requests of a corpus.
 pub fn requests(sizes: &Sizes) -> Vec<Request> {
     let mut maker = Maker::new(sizes.seed);
-    let all = schedule(&[&GOOD, &DEAR, &UNJOINED, &UNFAIR, &DAMAGED, &LIMITS], &mut maker.rng);
-    let good = schedule(&[&GOOD], &mut maker.rng);
-    let fair = schedule(&[&GOOD, &UNJOINED, &UNJOINED], &mut maker.rng);
+    let plain: [&[(usize, Recipe)]; 6] = [&GOOD, &DEAR, &UNJOINED, &UNFAIR, &DAMAGED, &LIMITS];
+    let set_up: [&[(usize, Recipe)]; 3] = [&SET_UP, &SET_UP_UNJOINED, &SET_UP_DAMAGED];
+    let all = schedule(&[&plain[..], &set_up].concat(), &mut maker.rng);
+    let good = schedule(&[&GOOD, &SET_UP], &mut maker.rng);
+    let fair = schedule(&[&GOOD, &UNJOINED, &UNJOINED, &SET_UP, &SET_UP_UNJOINED], &mut maker.rng);
     let mut requests = Vec::new();
     for place in 0..sizes.judges {
         let text = all[place % all.len()](&mut maker);
@@ -92,7 +97,7 @@ fn opposing(game: &Game, touching: usize, rng: &mut Rng) -> Option<usize> {
     Some(empty[place])
 }
 
-/// Makes up an opponent's cells for a whole game by a sheet, and the stones at its end.
+/// Makes up an opponent's cells for a whole game by a sheet, and the stones played.
 fn game(sheet: &Sheet, rng: &mut Rng) -> (Vec<u32>, Vec<u32>) {
     let mut game = Game::start(sheet);
     let mut cells = Vec::new();
@@ -118,6 +123,12 @@ fn game(sheet: &Sheet, rng: &mut Rng) -> (Vec<u32>, Vec<u32>) {
     }
     let (mine, theirs) = game.stones();
     (cells, mine.iter().chain(theirs).map(|&cell| cell as u32).collect())
+}
+
+/// Lists the cells of the stones set up.
+fn set_up(sheet: &Sheet) -> Vec<u32> {
+    let sides = [Side::Own, Side::Opp].into_iter();
+    sides.flat_map(|side| sheet.set_up.cells(side)).map(|cell| cell as u32).collect()
 }
 
 /// Picks a cell number that is not on a board of this size.
@@ -148,7 +159,7 @@ fn vary(cells: &mut Vec<u32>, stones: &[u32], size: u32, kind: usize, rng: &mut 
             cells.push(no_cell(size, rng));
         }
         13 => cells.insert(part, no_cell(size, rng)),
-        14 | 15 => {
+        14 | 15 | 19..=22 => {
             cells.truncate(part);
             cells.extend(stones.get(rng.below(stones.len() + 1)));
         }
@@ -172,7 +183,9 @@ fn play(maker: &mut Maker, recipe: Recipe, place: usize) -> Request {
     if let Some(sheet) = accepted(&text) {
         let (moves, stones) = game(&sheet, rng);
         cells = moves;
-        vary(&mut cells, &stones, sheet.board.size() as u32, place % 19, rng);
+        let kind = place % 23;
+        let taken = if kind > 18 { set_up(&sheet) } else { stones };
+        vary(&mut cells, &taken, sheet.board.size() as u32, kind, rng);
     }
     cells.truncate(400);
     let room = if rng.chance(60) { cells.len() } else { room_for(cells.len(), rng) };

@@ -1,6 +1,8 @@
 //! Damage to the text of a sheet: to single lines and to bytes.
 
+use crate::plan::set_up_line;
 use crate::rng::Rng;
+use crate::set_up::Side;
 
 const COUNTS: [&str; 22] = [
     "0",
@@ -104,6 +106,9 @@ const HEADERS: [&str; 44] = [
     "m\ta1\t0",
     "hexx\t2\t2\tD",
 ];
+
+const WORDS: [&str; 14] =
+    ["", "Own", "OPP", "ow", "op", "owns", "oppo", "own ", " opp", "o", "m", "w", "own\r", "opp\0"];
 
 /// Parts a text into lines without their line feeds, the last one perhaps empty.
 fn lines(text: &[u8]) -> Vec<Vec<u8>> {
@@ -275,17 +280,26 @@ pub fn zero(text: &[u8], rng: &mut Rng) -> Vec<u8> {
     joined(&lines)
 }
 
-/// Names a well-formed cell off the board in some move line, now and then without its line feed.
+/// Reads the columns and rows of a header, 2 and 2 where there are none.
+fn sides(header: &[u8]) -> (u8, u8) {
+    let header = String::from_utf8_lossy(header).into_owned();
+    let sides: Vec<u8> = header.split('\t').filter_map(|field| field.parse().ok()).collect();
+    match sides[..] {
+        [columns @ 1..=19, rows @ 1..=19, ..] => (columns, rows),
+        _ => (2, 2),
+    }
+}
+
+/// Names a well-formed cell off the board in some move or set-up line, now and then without its line feed.
 pub fn off_board(text: &[u8], rng: &mut Rng) -> Vec<u8> {
     let mut lines = lines(text);
-    let moves: Vec<usize> = (1..lines.len()).filter(|&at| lines[at].starts_with(b"m")).collect();
-    let header = String::from_utf8_lossy(&lines[0]).into_owned();
-    let sides: Vec<u8> = header.split('\t').filter_map(|field| field.parse().ok()).collect();
-    let (columns, rows) = (sides[0], sides[1]);
+    let named = |line: &[u8]| line.starts_with(b"m") || line.starts_with(b"o");
+    let cells_at: Vec<usize> = (1..lines.len()).filter(|&at| named(&lines[at])).collect();
+    let (columns, rows) = sides(&lines[0]);
     let right = format!("{}{}", char::from(b'a' + columns), rng.between(1, usize::from(rows)));
     let below = format!("{}{}", char::from(b'a' + rng.below(usize::from(columns)) as u8), rows + 1);
     let cells = [right, below, "t1".into(), "z99".into(), "a20".into(), "a99".into()];
-    let place = *rng.pick(&moves);
+    let place = *rng.pick(&cells_at);
     with_fields(&mut lines[place], |fields| fields[1] = rng.pick(&cells).as_bytes().to_vec());
     if rng.chance(15) {
         lines.truncate(place + 1);
@@ -309,8 +323,19 @@ pub fn end(text: &[u8], rng: &mut Rng) -> Vec<u8> {
 
 /// Puts something after a finished tree.
 pub fn tail(text: &[u8], rng: &mut Rng) -> Vec<u8> {
-    let tails: [&[u8]; 9] =
-        [b"\n", b"\0", b"m", b"m\ta1\t0\n", b"w\t1\n", b"\r\n", b" ", b"\xff\xfe", b"x\ny\nz"];
+    let tails: [&[u8]; 11] = [
+        b"\n",
+        b"\0",
+        b"m",
+        b"m\ta1\t0\n",
+        b"w\t1\n",
+        b"\r\n",
+        b" ",
+        b"\xff\xfe",
+        b"x\ny\nz",
+        b"own\ta1\n",
+        b"opp",
+    ];
     let mut text = text.to_vec();
     text.extend(*rng.pick(&tails));
     text
@@ -348,4 +373,59 @@ pub fn soup(rng: &mut Rng) -> Vec<u8> {
         text.push(if any { rng.below(256) as u8 } else { *rng.pick(b"mw\t\n\t\n0123abc-hexDA") });
     }
     text
+}
+
+/// Lists the places of the set-up lines.
+fn set_up_places(lines: &[Vec<u8>]) -> Vec<usize> {
+    (1..lines.len()).filter(|&at| lines[at].starts_with(b"o")).collect()
+}
+
+/// Damages one set-up line in one way.
+pub fn stone(text: &[u8], rng: &mut Rng) -> Vec<u8> {
+    let mut lines = lines(text);
+    let places = set_up_places(&lines);
+    if places.is_empty() {
+        return line(text, rng);
+    }
+    let place = *rng.pick(&places);
+    match rng.below(9) {
+        0..=2 => damage_cell(&mut lines[place], rng),
+        3 => damage_fields(&mut lines[place], rng),
+        4 => damage_bytes_of(&mut lines[place], rng),
+        5 => with_fields(&mut lines[place], |fields| {
+            fields[0] = rng.pick(&WORDS).as_bytes().to_vec();
+        }),
+        6 => lines.truncate(place + 1),
+        7 => with_fields(&mut lines[place], |fields| fields[1] = b"-".to_vec()),
+        _ => with_fields(&mut lines[place], |fields| fields.truncate(1)),
+    }
+    joined(&lines)
+}
+
+/// Puts a set-up line into the tree or after it, as another or in place of one before the tree.
+pub fn misplaced(text: &[u8], rng: &mut Rng) -> Vec<u8> {
+    let mut lines = lines(text);
+    let places = set_up_places(&lines);
+    let Some(&last) = places.last() else {
+        return line(text, rng);
+    };
+    let from = *rng.pick(&places);
+    let stray = if rng.chance(50) { lines.remove(from) } else { b"own\ta1".to_vec() };
+    let end = lines.len() - 1;
+    let to = if rng.chance(30) { end } else { rng.between(last.min(end), end) };
+    lines.insert(to, stray);
+    joined(&lines)
+}
+
+/// Puts some set-up lines on any cells of the board after the header.
+pub fn set_up(text: &[u8], rng: &mut Rng) -> Vec<u8> {
+    let end = text.iter().position(|&byte| byte == b'\n').map_or(text.len(), |feed| feed + 1);
+    let (columns, rows) = sides(&text[..end.saturating_sub(1)]);
+    let mut set_up = String::new();
+    let most = *rng.pick(&[1, 2, 6]);
+    for _ in 0..rng.between(1, most) {
+        let spot = (rng.between(1, columns.into()) as i32, rng.between(1, rows.into()) as i32);
+        set_up += &set_up_line(*rng.pick(&[Side::Own, Side::Opp]), spot);
+    }
+    [&text[..end], set_up.as_bytes(), &text[end..]].concat()
 }

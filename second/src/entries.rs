@@ -4,6 +4,7 @@ use crate::answering::Game;
 use crate::fair::{first_not_apart, first_not_elusive, first_unfair};
 use crate::fault::{self, Fault};
 use crate::outcomes::{count_of_move, first_unjoined, outcomes_of_move, too_many};
+use crate::set_up::{off_stones, Side};
 use crate::sheet::{self, count_moves, count_waits, Sheet};
 use crate::verdict::Verdict;
 use std::collections::BTreeSet;
@@ -60,16 +61,22 @@ fn fair(sheet: &Sheet) -> Result<(), Verdict> {
     if let Some((line, cell)) = first_not_apart(&sheet.root) {
         return Err(Verdict::NotApart { line, cell });
     }
+    if fault::on(Fault::OnStoneAfterApart) {
+        off_stones(&sheet.root, &sheet.set_up)?;
+    }
     if let Some((line, cell)) = first_not_elusive(&sheet.root) {
         return Err(Verdict::NotElusive { line, cell });
     }
     Ok(())
 }
 
-/// Reads a sheet and counts its outcomes, deciding 1 to 12.
+/// Reads a sheet and counts its outcomes, deciding 1 to 9 and 19, then 20, then 10 to 12.
 fn counted(text: &[u8], work: &mut [u32]) -> Result<(Sheet, u128), Verdict> {
     borrow(text, work)?;
     let sheet = sheet::read(text)?;
+    if !fault::on(Fault::OnStoneAfterApart) {
+        off_stones(&sheet.root, &sheet.set_up)?;
+    }
     fair(&sheet)?;
     let count = count_of_move(&sheet.root);
     if too_many(count) {
@@ -78,7 +85,7 @@ fn counted(text: &[u8], work: &mut [u32]) -> Result<(Sheet, u128), Verdict> {
     Ok((sheet, count))
 }
 
-/// Reads a sheet and tests its outcomes, deciding 1 to 13.
+/// Reads a sheet and tests its outcomes, deciding all these and then 13.
 fn accepted(text: &[u8], work: &mut [u32]) -> Result<(Sheet, u128), Verdict> {
     let (sheet, count) = counted(text, work)?;
     match first_unjoined(&sheet, count) {
@@ -93,9 +100,11 @@ pub fn judge(text: &[u8], work: &mut [u32]) -> Judged {
         Err(verdict) => Judged { verdict, moves: 0, waits: 0, outcomes: 0 },
         Ok((sheet, count)) => {
             let uncounted = fault::on(Fault::RootNotCounted) && sheet.root.cell == 0;
+            let own = sheet.set_up.cells(Side::Own).count();
+            let counted = if fault::on(Fault::OwnCountedAsMoves) { own } else { 0 };
             Judged {
                 verdict: Verdict::Done,
-                moves: count_moves(&sheet.root) - usize::from(uncounted),
+                moves: counted + count_moves(&sheet.root) - usize::from(uncounted),
                 waits: count_waits(&sheet.root),
                 outcomes: count as usize,
             }
@@ -144,7 +153,7 @@ fn answers(
     Ok((answers, game.over() || game.joined()))
 }
 
-/// Lists the cells of one outcome in ascending order; the room takes them.
+/// Lists the cells of one outcome and the own stones set up, ascending; the room takes them.
 pub fn outcome(text: &[u8], number: u32, room: &mut [u32], work: &mut [u32]) -> Listed {
     match one_outcome(text, number, room.len(), work) {
         Err(verdict) => Listed { verdict, cells: 0 },
@@ -155,7 +164,7 @@ pub fn outcome(text: &[u8], number: u32, room: &mut [u32], work: &mut [u32]) -> 
     }
 }
 
-/// Finds the cells of one outcome, deciding 1 to 12, then 18, then 14.
+/// Finds the stones of one outcome, deciding all but 13, then 18, then 14.
 fn one_outcome(
     text: &[u8],
     number: u32,
@@ -170,16 +179,28 @@ fn one_outcome(
         return Err(Verdict::Room);
     }
     let found = listed.get(number as usize).ok_or(Verdict::NoSuchOutcome)?;
-    let cells: Vec<usize> = if fault::on(Fault::CellsUnsorted) {
-        found.clone()
-    } else {
-        found.iter().copied().collect::<BTreeSet<usize>>().into_iter().collect()
-    };
-    let needed = cells.len() + usize::from(fault::on(Fault::RoomOneMore));
-    if room < needed {
+    let cells = stones_listed(&sheet, found);
+    let fitting = if fault::on(Fault::RoomForTree) { found.len() } else { cells.len() };
+    if room < fitting + usize::from(fault::on(Fault::RoomOneMore)) {
         return Err(Verdict::Room);
     }
     Ok(cells)
+}
+
+/// Lists the cells of an outcome and the own stones set up in ascending order.
+fn stones_listed(sheet: &Sheet, found: &[usize]) -> Vec<usize> {
+    let own: Vec<usize> = sheet.set_up.cells(Side::Own).collect();
+    let sorted = |cells: &[usize]| cells.iter().copied().collect::<BTreeSet<usize>>();
+    if fault::on(Fault::CellsUnsorted) {
+        return [found, &own].concat();
+    }
+    if fault::on(Fault::OwnNotListed) {
+        return sorted(found).into_iter().collect();
+    }
+    if fault::on(Fault::OwnListedLast) {
+        return sorted(found).into_iter().chain(sorted(&own)).collect();
+    }
+    sorted(&[found, &own].concat()).into_iter().collect()
 }
 
 /// Writes numbers into the first places of the room.

@@ -62,8 +62,18 @@ pub fn overfull(rng: &mut Rng) -> Vec<u8> {
         }
         written += 1 + left;
     }
-    let ends: [&[u8]; 9] =
-        [b"", b"x", b"\n", b"w\t2\n", b"m\ta2\t0\n", b"m\tt1\t0\n", b"w\t1", b"\0", b"w\t0\nm\n"];
+    let ends: [&[u8]; 10] = [
+        b"",
+        b"x",
+        b"\n",
+        b"w\t2\n",
+        b"m\ta2\t0\n",
+        b"m\tt1\t0\n",
+        b"w\t1",
+        b"\0",
+        b"w\t0\nm\n",
+        b"own\ta2\n",
+    ];
     text.extend(*rng.pick(&ends));
     text
 }

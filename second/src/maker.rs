@@ -80,7 +80,7 @@ impl Maker {
     }
 
     /// Picks a number of columns or rows, small ones more often, and those at the edges.
-    fn side(&mut self) -> i32 {
+    pub fn side(&mut self) -> i32 {
         match self.rng.below(10) {
             0..=5 => self.rng.between(1, 6) as i32,
             6 | 7 => self.width(1),
@@ -89,7 +89,7 @@ impl Maker {
     }
 
     /// Picks a number of columns or rows that is not less than this one.
-    fn width(&mut self, least: i32) -> i32 {
+    pub fn width(&mut self, least: i32) -> i32 {
         self.rng.between(least as usize, LARGEST) as i32
     }
 

@@ -2,6 +2,7 @@
 
 use crate::fault::{self, Fault};
 use crate::joining::joins;
+use crate::set_up::Side;
 use crate::sheet::{Move, Sheet, Wait};
 
 /// The most outcomes a sheet may have.
@@ -77,9 +78,23 @@ fn paired(so_far: &[Vec<usize>], next: &[Vec<usize>], most: usize) -> Vec<Vec<us
     outcomes
 }
 
-/// Finds the smallest number of an outcome of the sheet that does not join.
+/// Lists the set-up stones that count in every outcome of the sheet: the own ones.
+fn counted_stones(sheet: &Sheet) -> Vec<usize> {
+    let mut stones: Vec<usize> = sheet.set_up.cells(Side::Own).collect();
+    if fault::on(Fault::OwnNotInOutcomes) {
+        stones.clear();
+    }
+    if fault::on(Fault::OppInOutcomes) {
+        stones.extend(sheet.set_up.cells(Side::Opp));
+    }
+    stones
+}
+
+/// Finds the smallest number of an outcome that does not join, the own set-up stones counted in.
 pub fn first_unjoined(sheet: &Sheet, count: u128) -> Option<usize> {
-    let outcomes = outcomes_of_move(&sheet.root, count as usize);
+    let stones = counted_stones(sheet);
+    let mut outcomes = outcomes_of_move(&sheet.root, count as usize);
+    outcomes.iter_mut().for_each(|cells| cells.extend(&stones));
     let unjoined = |cells: &Vec<usize>| !joins(sheet.board, sheet.player, cells);
     if fault::on(Fault::UnjoinedLast) {
         return outcomes.iter().rposition(unjoined);

@@ -2,6 +2,7 @@
 
 use crate::board::LARGEST;
 use crate::rng::Rng;
+use crate::set_up::Side;
 use std::collections::BTreeSet;
 
 /// A column and a row from 1; (0, 0) is no cell.
@@ -17,12 +18,13 @@ pub struct Step {
     pub waits: Vec<Vec<Step>>,
 }
 
-/// A board, a player and the first move.
+/// A board, a player, the stones set up in the order of their lines and the first move.
 #[derive(Clone, PartialEq, Debug)]
 pub struct Plan {
     pub columns: i32,
     pub rows: i32,
     pub player: char,
+    pub stones: Vec<(Side, Spot)>,
     pub root: Step,
 }
 
@@ -151,6 +153,12 @@ impl Step {
     }
 }
 
+/// Writes a set-up line.
+pub fn set_up_line(side: Side, spot: Spot) -> String {
+    let word = if side == Side::Own { "own" } else { "opp" };
+    format!("{word}\t{}\n", name(spot))
+}
+
 /// Writes a spot as a sheet does.
 pub fn name(spot: Spot) -> String {
     if spot == NONE {
@@ -162,7 +170,7 @@ pub fn name(spot: Spot) -> String {
 impl Plan {
     /// Makes a plan for player D.
     pub fn new(columns: i32, rows: i32, root: Step) -> Plan {
-        Plan { columns, rows, player: 'D', root }
+        Plan { columns, rows, player: 'D', stones: vec![], root }
     }
 
     /// Writes the header line.
@@ -173,6 +181,9 @@ impl Plan {
     /// Writes the whole sheet.
     pub fn text(&self) -> Vec<u8> {
         let mut text = self.header();
+        for &(side, spot) in &self.stones {
+            text.extend(set_up_line(side, spot).bytes());
+        }
         self.root.write(&mut text);
         text
     }
@@ -184,9 +195,14 @@ impl Plan {
             .collect()
     }
 
-    /// Lists the spots of the board that are not named in the tree, in a random order.
+    /// Lists the spots of all stones set up and of the tree.
+    fn spots(&self) -> BTreeSet<Spot> {
+        self.stones.iter().map(|stone| stone.1).chain(self.root.spots()).collect()
+    }
+
+    /// Lists the spots of the board that no line names, in a random order.
     pub fn unused(&self, rng: &mut Rng) -> Vec<Spot> {
-        let used = self.root.spots();
+        let used = self.spots();
         let mut free: Vec<Spot> =
             self.board().into_iter().filter(|spot| !used.contains(spot)).collect();
         rng.shuffle(&mut free);
@@ -200,26 +216,32 @@ impl Plan {
         let sizes = 1..=LARGEST as i32;
         sizes.contains(&self.columns)
             && sizes.contains(&self.rows)
-            && self.root.spots().iter().all(inside)
+            && self.spots().iter().all(inside)
+    }
+
+    /// Changes every spot of the stones set up and of the tree.
+    fn change(&mut self, to: &dyn Fn(Spot) -> Spot) {
+        self.stones.iter_mut().for_each(|stone| stone.1 = to(stone.1));
+        self.root.change(to);
     }
 
     /// Exchanges columns and rows, and with them the players.
     pub fn transposed(mut self) -> Plan {
-        self.root.change(&|spot| (spot.1, spot.0));
+        self.change(&|spot| (spot.1, spot.0));
         let player = if self.player == 'D' { 'A' } else { 'D' };
-        Plan { columns: self.rows, rows: self.columns, player, root: self.root }
+        Plan { columns: self.rows, rows: self.columns, player, ..self }
     }
 
     /// Turns the board half around.
     pub fn turned(mut self) -> Plan {
         let (columns, rows) = (self.columns, self.rows);
-        self.root.change(&|spot| (columns + 1 - spot.0, rows + 1 - spot.1));
+        self.change(&|spot| (columns + 1 - spot.0, rows + 1 - spot.1));
         self
     }
 
     /// Puts the plan on a board with more columns, so many of them on the left.
     pub fn widened(mut self, columns: i32, left: i32) -> Plan {
-        self.root.change(&|spot| (spot.0 + left, spot.1));
+        self.change(&|spot| (spot.0 + left, spot.1));
         self.columns = columns;
         self
     }

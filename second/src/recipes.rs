@@ -5,6 +5,7 @@ use crate::grow;
 use crate::limits;
 use crate::maker::Maker;
 use crate::plan::Plan;
+use crate::positions;
 use crate::rng::Rng;
 use crate::templates;
 use crate::unfair;
@@ -64,17 +65,53 @@ pub const DAMAGED: [(usize, Recipe); 11] = [
 ];
 
 /// Texts at the limits of reading.
-pub const LIMITS: [(usize, Recipe); 7] = [
-    (5, |maker| {
+pub const LIMITS: [(usize, Recipe); 8] = [
+    (8, |maker| {
         let base = maker.plan(100).text();
         limits::long_text(&base, &mut maker.rng)
     }),
-    (3, |maker| limits::overfull(&mut maker.rng)),
+    (5, |maker| limits::overfull(&mut maker.rng)),
     (2, |maker| limits::just_full(&mut maker.rng)),
     (2, |maker| limits::deep(129, &mut maker.rng).text()),
     (5, |maker| limits::deep_text(&mut maker.rng)),
     (2, |maker| limits::counts(&mut maker.rng)),
     (5, |maker| limits::edge_board(&mut maker.rng)),
+    (1, |maker| limits::one_more(&mut maker.rng).text()),
+];
+
+/// Accepted sheets with set-up stones.
+pub const SET_UP: [(usize, Recipe); 5] = [
+    (6, |maker| positions::scattered(maker).text()),
+    (8, |maker| positions::resumed(maker).text()),
+    (4, |maker| positions::template(maker).text()),
+    (2, |maker| positions::joined_already(maker).text()),
+    (2, |maker| positions::crowded(maker).text()),
+];
+
+/// Fair sheets with set-up stones of which most have an outcome that does not join.
+pub const SET_UP_UNJOINED: [(usize, Recipe); 3] = [
+    (4, |maker| lost(maker, positions::resumed)),
+    (3, |maker| lost(maker, positions::template)),
+    (2, |maker| lost(maker, positions::joined_already)),
+];
+
+/// Texts with set-up lines that are refused, or may be.
+pub const SET_UP_DAMAGED: [(usize, Recipe); 15] = [
+    (4, |maker| positioned(maker, positions::cover).text()),
+    (4, |maker| positioned(maker, positions::repeat).text()),
+    (2, |maker| positioned(maker, positions::wrap).text()),
+    (3, covered_and_unfair),
+    (2, repeated_and_damaged),
+    (5, |maker| position_damaged(maker, damage::stone)),
+    (3, |maker| position_damaged(maker, damage::misplaced)),
+    (2, |maker| position_damaged(maker, damage::off_board)),
+    (2, |maker| position_damaged(maker, damage::line)),
+    (3, |maker| position_damaged(maker, damage::bytes)),
+    (1, |maker| position_damaged(maker, damage::tail)),
+    (4, |maker| beset(maker, &UNFAIR)),
+    (4, |maker| beset(maker, &DAMAGED)),
+    (3, |maker| beset(maker, &LIMITS)),
+    (2, full_and_set_up),
 ];
 
 /// Lists all recipes, each as often as it weighs, in a random order.
@@ -169,4 +206,64 @@ fn full(maker: &mut Maker) -> Vec<u8> {
             plan.text()
         }
     }
+}
+
+/// Makes an accepted plan with set-up stones that are few.
+fn few_stones(maker: &mut Maker) -> Plan {
+    match maker.rng.below(3) {
+        0 => positions::scattered(maker),
+        _ => positions::resumed(maker),
+    }
+}
+
+/// Makes a plan with set-up stones and leaves an own one out.
+fn lost(maker: &mut Maker, make: fn(&mut Maker) -> Plan) -> Vec<u8> {
+    let mut plan = make(maker);
+    positions::lose(&mut plan, &mut maker.rng);
+    plan.text()
+}
+
+/// Makes an accepted plan with set-up stones and changes these.
+fn positioned(maker: &mut Maker, change: fn(&mut Plan, &mut Rng)) -> Plan {
+    let mut plan = few_stones(maker);
+    change(&mut plan, &mut maker.rng);
+    plan
+}
+
+/// Makes a plan with stones on its tree and makes it unfair too.
+fn covered_and_unfair(maker: &mut Maker) -> Vec<u8> {
+    let mut plan = positioned(maker, positions::cover);
+    spoil(&mut plan, &mut maker.rng);
+    plan.text()
+}
+
+/// Makes a plan that names a set-up cell twice and damages its text too.
+fn repeated_and_damaged(maker: &mut Maker) -> Vec<u8> {
+    let text = positioned(maker, positions::repeat).text();
+    match maker.rng.below(3) {
+        0 => damage::early(&text, &mut maker.rng),
+        1 => damage::stone(&text, &mut maker.rng),
+        _ => damage::line(&text, &mut maker.rng),
+    }
+}
+
+/// Makes a sheet with set-up stones, mostly accepted, and damages its text.
+fn position_damaged(maker: &mut Maker, damage: fn(&[u8], &mut Rng) -> Vec<u8>) -> Vec<u8> {
+    let text = few_stones(maker).text();
+    damage(&text, &mut maker.rng)
+}
+
+/// Makes a sheet of one of these kinds and sets stones up on any cells before its tree.
+fn beset(maker: &mut Maker, kinds: &[(usize, Recipe)]) -> Vec<u8> {
+    let recipe = maker.rng.pick(kinds).1;
+    let text = recipe(maker);
+    damage::set_up(&text, &mut maker.rng)
+}
+
+/// Makes a sheet with set-up stones and about as many nodes as are allowed.
+fn full_and_set_up(maker: &mut Maker) -> Vec<u8> {
+    let rng = &mut maker.rng;
+    let mut plan = limits::many_nodes(rng.between(2_046, 2_049), rng);
+    positions::scatter(&mut plan, rng.between(1, 3), rng);
+    plan.text()
 }

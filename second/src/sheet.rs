@@ -1,7 +1,8 @@
-//! Section "The sheet": from text to a tree of moves and waits.
+//! Section "The sheet": from text to the stones set up and a tree of moves and waits.
 
 use crate::board::{Board, Player, LARGEST};
 use crate::fault::{self, Fault};
+use crate::set_up::{next_side, off_stones, SetUp, Stone};
 use crate::verdict::Verdict;
 
 /// The longest text that is read.
@@ -25,11 +26,12 @@ pub struct Wait {
     pub moves: Vec<Move>,
 }
 
-/// A sheet that has been read: the board, the player and the first move.
+/// A sheet that has been read: the board, the player, the stones set up and the first move.
 #[derive(Clone, Debug)]
 pub struct Sheet {
     pub board: Board,
     pub player: Player,
+    pub set_up: SetUp,
     pub root: Move,
 }
 
@@ -47,11 +49,12 @@ struct Node {
     count: usize,
 }
 
-/// The text still to be read, the number of its first line and the nodes before it.
+/// The text still to be read, the number of its first line, and the nodes and stones before it.
 struct Reader<'a> {
     rest: &'a [u8],
     line: usize,
     nodes: usize,
+    set_up: SetUp,
     board: Board,
 }
 
@@ -63,12 +66,20 @@ pub fn read(text: &[u8]) -> Result<Sheet, Verdict> {
     }
     let end = text.iter().position(|&byte| byte == b'\n').ok_or(Verdict::Header)?;
     let (board, player) = header(&text[..end]).ok_or(Verdict::Header)?;
-    let mut reader = Reader { rest: &text[end + 1..], line: 2, nodes: 0, board };
+    let rest = &text[end + 1..];
+    let mut reader = Reader { rest, line: 2, nodes: 0, set_up: SetUp::default(), board };
+    reader.read_set_up()?;
+    if fault::on(Fault::SetUpNoLines) {
+        reader.line = 2;
+    }
     let root = reader.read_move(1)?;
     if !reader.rest.is_empty() {
         return Err(Verdict::Remains { line: reader.line });
     }
-    Ok(Sheet { board, player, root })
+    if fault::on(Fault::TwiceAfterReading) {
+        reader.set_up.all_unnamed()?;
+    }
+    Ok(Sheet { board, player, set_up: reader.set_up, root })
 }
 
 /// Parts a line into its fields.
@@ -124,6 +135,14 @@ fn cell(field: &[u8]) -> Option<(usize, usize)> {
         return None;
     }
     Some((usize::from(letter - b'a') + 1, number(digits, 1, 99)?))
+}
+
+/// Reads a set-up line, whose first field has been looked at, as column and row.
+fn set_up_line(line: &[u8]) -> Option<(usize, usize)> {
+    match fields(line)[..] {
+        [_, named] => cell(named),
+        _ => None,
+    }
 }
 
 /// Reads a node line of the wanted kind; only the first node may have no cell.
@@ -200,14 +219,42 @@ impl<'a> Reader<'a> {
         }
     }
 
+    /// Reads the set-up part, all lines from here that begin with `own` or `opp`: 4, 5, 19.
+    fn read_set_up(&mut self) -> Result<(), Verdict> {
+        while let Some(side) = next_side(self.rest, &self.set_up) {
+            let line = self.line;
+            let (bytes, ended) = self.take_line();
+            self.line += 1;
+            self.nodes += usize::from(fault::on(Fault::SetUpNodes));
+            if fault::on(Fault::DashStone) && bytes.ends_with(b"\t-") {
+                continue;
+            }
+            let place = if ended { set_up_line(bytes) } else { None };
+            let (column, row) = place.ok_or(Verdict::Malformed { line })?;
+            let stone = Stone { line, side, cell: self.board.number(column, row) };
+            if fault::on(Fault::TwiceBeforeBoard) {
+                self.set_up.unnamed(stone)?;
+            }
+            if !self.board.holds(column as i64, row as i64) {
+                return Err(Verdict::OffBoard { line });
+            }
+            self.set_up.put(stone)?;
+        }
+        Ok(())
+    }
+
     /// Reads the next line as a node at a depth, or refuses the line.
     fn read_node(&mut self, kind: Kind, depth: usize) -> Result<Node, Verdict> {
+        if fault::on(Fault::SetUpInTree) {
+            self.read_set_up()?;
+        }
         let line = self.line;
         if self.rest.is_empty() {
             return Err(Verdict::Missing { line });
         }
         let (bytes, ended) = self.take_line();
-        let node = if ended { node(bytes, kind, line == 2) } else { None };
+        let first = if fault::on(Fault::DashOnLineTwo) { line == 2 } else { depth == 1 };
+        let node = if ended { node(bytes, kind, first) } else { None };
         let most = if fault::on(Fault::Nodes2049) { NODES + 1 } else { NODES };
         for number in order() {
             match number {
@@ -233,6 +280,9 @@ impl<'a> Reader<'a> {
         let line = self.line;
         let node = self.read_node(Kind::Move, depth)?;
         let cell = if node.row == 0 { 0 } else { self.board.number(node.column, node.row) };
+        if fault::on(Fault::OnStoneInReading) {
+            off_stones(&Move { line, cell, waits: vec![] }, &self.set_up)?;
+        }
         let mut waits = Vec::new();
         for _ in 0..node.count {
             waits.push(self.read_wait(depth + 1)?);

@@ -35,7 +35,7 @@ pub fn tell(sizes: &Sizes) -> bool {
 
 /// Prints how often each verdict is met by judge, play and outcome and in all, and says whether often enough.
 pub fn histogram(sizes: &Sizes) -> bool {
-    let mut met = [[0usize; 4]; 19];
+    let mut met = [[0usize; 4]; 21];
     for request in requests(sizes) {
         let kind = match request.ask {
             Ask::Judge => 0,

@@ -7,9 +7,12 @@ use crate::limits;
 use crate::links;
 use crate::maker::{accepted, Maker};
 use crate::outcomes::{count_of_move, outcomes_of_move};
+use crate::plan::Plan;
+use crate::positions;
 use crate::replies;
 use crate::requests::{next, write, Ask, Next};
 use crate::rng::Rng;
+use crate::set_up::Side;
 use crate::sheet;
 use crate::solve;
 use crate::templates;
@@ -56,6 +59,43 @@ fn grown_plans() {
         assert!(accepted(&maker.deep_plan(300)));
         assert!(accepted(&maker.idle_plan(300)));
         assert!(accepted(&maker.slow_plan(300)));
+    }
+}
+
+/// Plans that start from a position are accepted, and most have stones of both sides.
+#[test]
+fn positions_accepted() {
+    let mut maker = Maker::new(10);
+    let makers: [fn(&mut Maker) -> Plan; 5] = [
+        positions::scattered,
+        positions::resumed,
+        positions::template,
+        positions::joined_already,
+        positions::crowded,
+    ];
+    for make in makers {
+        let mut with_both = 0;
+        for _ in 0..60 {
+            let plan = make(&mut maker);
+            assert!(accepted(&plan), "{}", String::from_utf8_lossy(&plan.text()));
+            let has = |side| plan.stones.iter().any(|stone| stone.0 == side);
+            with_both += usize::from(has(Side::Own) && has(Side::Opp));
+        }
+        assert!(with_both >= 20, "{with_both}");
+    }
+}
+
+/// Stones on the tree are refused with 20, a cell named twice with 19.
+#[test]
+fn positions_refused() {
+    let mut maker = Maker::new(11);
+    for _ in 0..60 {
+        let mut plan = positions::resumed(&mut maker);
+        positions::repeat(&mut plan, &mut maker.rng);
+        assert_eq!(verdict(&plan.text()), if plan.stones.is_empty() { 0 } else { 19 });
+        let mut plan = positions::template(&mut maker);
+        positions::cover(&mut plan, &mut maker.rng);
+        assert_eq!(verdict(&plan.text()), 20);
     }
 }
 
@@ -109,7 +149,7 @@ fn small_corpus() {
     fault::set(None);
 }
 
-/// In games by accepted sheets every move has one answer, on an empty cell.
+/// In games by accepted sheets every move has one answer, on an empty cell; set-up stones fill theirs.
 #[test]
 fn one_answer_each() {
     let sizes = Sizes { seed: 4, judges: 0, plays: 400, outcomes: 0 };
@@ -121,7 +161,9 @@ fn one_answer_each() {
         if reply[0] == 0 {
             assert_eq!(reply[5], cells.len());
             let theirs = cells.iter().map(|&cell| cell as usize);
+            let sheet = sheet::read(&request.text).expect("an accepted sheet can be read");
             let mut stones: Vec<usize> = reply[7..].iter().copied().chain(theirs).collect();
+            stones.extend(sheet.set_up.cells(Side::Own).chain(sheet.set_up.cells(Side::Opp)));
             let count = stones.len();
             stones.sort_unstable();
             stones.dedup();

@@ -418,3 +418,174 @@ fn boards_to_nineteen() {
     game.answer(361);
     assert_eq!(game.stones(), (&[1][..], &[361][..]));
 }
+
+/// Follow-up C-11, reading 1: the set-up part is a run of lines, and later ones are node lines.
+#[test]
+fn set_up_part() {
+    assert_eq!(counts("hex 2 2 D / own b1 / m - 1 / w 2 / m a2 0 / m b2 0"), (3, 1, 2));
+    assert_eq!(counts("hex 2 2 D / opp a1 / own b1 / m - 1 / w 2 / m a2 0 / m b2 0"), (3, 1, 2));
+    assert_eq!(counts("hex 3 1 D / own a1 / opp b1 / own c1 / m - 0"), (1, 0, 1));
+    for line in ["own", "own ", "own -", "own a", "own a0", "own a01", "own a100", "own A1"] {
+        assert_eq!(sample(&format!("hex 2 2 D / {line} / m b1 0")), [4, 2, 0, 0], "{line}");
+        let opp = line.replace("own", "opp");
+        assert_eq!(sample(&format!("hex 2 2 D / opp a1 / {opp}")), [4, 3, 0, 0], "{opp}");
+    }
+    for line in ["own a1 0", "own a1 ", "owns a1", "Own a1", "ow a1", "opp: a1", "own\r a1"] {
+        assert_eq!(sample(&format!("hex 2 2 D / own b1 / {line} / x")), [4, 3, 0, 0], "{line}");
+    }
+    for cell in ["c1", "a3", "z99", "t1", "a20"] {
+        assert_eq!(sample(&format!("hex 2 2 D / opp {cell} / x")), [5, 2, 0, 0]);
+        assert_eq!(verdict(&half(&format!("hex 2 2 D / opp {cell}"))), [4, 2, 0, 0]);
+    }
+    for end in ["own", "opp a1", "own c1", "own b2"] {
+        assert_eq!(verdict(&half(&format!("hex 2 2 D / own b2 / {end}"))), [4, 3, 0, 0], "{end}");
+    }
+    assert_eq!(sample("hex 2 2 D / own a1 / opp b1"), [8, 4, 0, 0]);
+    assert_eq!(verdict(b"own\ta1\nhex\t2\t2\tD\n"), [3, 1, 0, 0]);
+}
+
+/// Reading 1, further: set-up lines in the tree, after it and in the 2,049th place.
+#[test]
+fn set_up_lines_elsewhere() {
+    assert_eq!(sample("hex 2 2 D / m b1 1 / own a1 / w 2"), [4, 3, 0, 0]);
+    assert_eq!(sample("hex 2 2 D / m b1 1 / w 2 / m a2 0 / opp a1 / m b2 0"), [4, 5, 0, 0]);
+    assert_eq!(sample("hex 2 2 D / own a1 / m b1 1 / opp c1 / w 2"), [4, 4, 0, 0]);
+    assert_eq!(sample(&format!("{P1} / own a1")), [9, 6, 0, 0]);
+    assert_eq!(sample(&format!("{P1} / opp")), [9, 6, 0, 0]);
+    let with = |set_up: &str, moves: usize, tail: &str| {
+        let mut text = text(&format!("hex 13 1 D / {set_up}m a1 1 / w {moves}"));
+        (0..2_046).for_each(|place| text.extend([&b"m\tb1\t0\n"[..], b"m\tc1\t0\n"][place % 2]));
+        text.extend(tail.bytes());
+        verdict(&text)
+    };
+    assert_eq!(with("", 2_047, "own\td1\n"), [6, 2_050, 0, 0]);
+    assert_eq!(with("", 2_047, "opp"), [6, 2_050, 0, 0]);
+    assert_eq!(with("", 2_046, "own\td1\n"), [9, 2_050, 0, 0]);
+    assert_eq!(with("own d1 / opp e1 / ", 2_046, ""), [0, 0, 0, 0]);
+    assert_eq!(with("own d1 / opp e1 / ", 2_047, ""), [8, 2_052, 0, 0]);
+    assert_eq!(with("own d1 / opp e1 / ", 2_047, "x"), [6, 2_052, 0, 0]);
+}
+
+/// Reading 2, first half: 19 at the second line with the cell, after 4 and 5 of that line.
+#[test]
+fn set_up_cells_twice() {
+    assert_eq!(sample("hex 2 2 D / own a1 / own a1 / zz"), [19, 3, 1, 0]);
+    assert_eq!(sample("hex 2 2 D / own a1 / opp a1"), [19, 3, 1, 0]);
+    assert_eq!(sample("hex 2 2 D / opp b2 / own a1 / own b2 / own a1 / m - 0"), [19, 4, 4, 0]);
+    assert_eq!(sample("hex 2 2 D / opp b1 / opp b1"), [19, 3, 2, 0]);
+    assert_eq!(sample("hex 2 2 D / own a1 / own c1 / own a1"), [5, 3, 0, 0]);
+    assert_eq!(sample("hex 2 2 D / own a1 / own c1 / own c1"), [5, 3, 0, 0]);
+    assert_eq!(sample("hex 2 2 D / own a1 / own a01"), [4, 3, 0, 0]);
+    assert_eq!(verdict(&half("hex 2 2 D / own a1 / own a1")), [4, 3, 0, 0]);
+    assert_eq!(sample("hex 2 2 D / own a1 / own a1 / m a1 0"), [19, 3, 1, 0]);
+    let cell =
+        |place: usize| format!("{}{}", char::from(b'a' + (place % 19) as u8), place / 19 + 1);
+    let lines = |count: usize| -> String {
+        let word = |place: usize| if place % 3 == 0 { "opp" } else { "own" };
+        (0..count).map(|place| format!(" / {} {}", word(place), cell(place % 361))).collect()
+    };
+    assert_eq!(sample(&format!("hex 19 19 D{}", lines(361))), [8, 363, 0, 0]);
+    assert_eq!(sample(&format!("hex 19 19 D{}", lines(400))), [19, 363, 1, 0]);
+    assert_eq!(sample(&format!("hex 19 19 D{} / m s19 0", lines(361))), [20, 363, 361, 0]);
+    let own = lines(361).replace("opp", "own");
+    assert_eq!(counts(&format!("hex 19 19 D{own} / m - 0")), (1, 0, 1));
+}
+
+/// Reading 2, second half: 20 at the first move on a stone of either side, after the reading, before 10.
+#[test]
+fn tree_on_set_up_stones() {
+    for side in ["own", "opp"] {
+        assert_eq!(sample(&P1.replace("D /", &format!("D / {side} b2 /"))), [20, 6, 4, 0]);
+        assert_eq!(sample(&P1.replace("D /", &format!("D / {side} b1 /"))), [20, 3, 2, 0]);
+        let p4 = P1.replace("b2", "b1");
+        assert_eq!(sample(&p4.replace("D /", &format!("D / {side} a1 /"))), [10, 3, 2, 0]);
+        assert_eq!(sample(&p4.replace("D /", &format!("D / {side} a2 /"))), [20, 5, 3, 0]);
+    }
+    assert_eq!(sample(&P1.replace("D /", "D / own b2 / opp a2 /")), [20, 6, 3, 0]);
+    let later = "hex 3 1 D / opp a1 / own c1 / m - 1 / w 2 / m c1 0 / m a1 0";
+    assert_eq!(sample(later), [20, 6, 3, 0]);
+    assert_eq!(sample("hex 2 2 D / own b1 / m b1 1 / w 1 / m a2 0"), [20, 3, 2, 0]);
+    assert_eq!(sample("hex 2 2 D / own b1 / m b1 1 / x"), [4, 4, 0, 0]);
+    assert_eq!(sample("hex 2 2 D / own b1 / m b1 1 / w 2"), [8, 5, 0, 0]);
+    assert_eq!(sample("hex 2 2 D / own b1 / m b1 0 / "), [9, 4, 0, 0]);
+    let on = "hex 2 2 D / own b1 / m b1 0";
+    assert_eq!((listed(on, 9, 0).0, refused(on, &[0])), (20, (20, 0, false)));
+    let many = twos(17).replace("D /", "D / opp m13 /");
+    assert_eq!(sample(&many), [12, 0, 0, 0]);
+    assert_eq!(sample(&many.replace("m13", "a1")), [20, 5, 1, 0]);
+}
+
+/// Reading 3: set-up lines count as lines, not as nodes.
+#[test]
+fn set_up_lines_and_nodes() {
+    assert_eq!(sample("hex 2 2 D / own a1 / opp a2 / m c1 0"), [5, 4, 0, 0]);
+    assert_eq!(sample("hex 2 2 D / own a1 / opp a2 / m - 1 / w 1 / m b1 0"), [11, 5, 2, 0]);
+    let p5 = "hex 3 2 D / own c1 / m b1 2 / w 2 / m a2 0 / m b2 0 / w 2 / m a1 0 / m a2 0";
+    assert_eq!(sample(p5), [10, 3, 4, 0]);
+    let mut deep = b"hex\t3\t1\tD\nown\tb1\nopp\tc1\n".to_vec();
+    for level in 1..=128 {
+        deep.extend(if level % 2 == 1 { &b"m\ta1\t1\n"[..] } else { b"w\t1\n" });
+    }
+    assert_eq!(verdict(&deep), [8, 132, 0, 0]);
+    deep.extend(b"m\ta1\t0\n");
+    assert_eq!(verdict(&deep), [7, 132, 0, 0]);
+}
+
+/// Reading 4: own stones count in outcomes and in play, opponent stones are taken from the start.
+#[test]
+fn play_from_set_up_stones() {
+    let done = |answers, over| Played { verdict: Verdict::Done, place: 0, answers, over };
+    let joined = "hex 2 2 D / own b1 / own b2 / m - 0";
+    assert_eq!(counts(joined), (1, 0, 1));
+    assert_eq!(played(joined, &[]), (done(0, true), vec![]));
+    assert_eq!(refused(joined, &[1]), (15, 1, false));
+    assert_eq!(refused(joined, &[0]), (15, 1, false));
+    let unfair = "hex 2 2 D / own b1 / own b2 / m - 1 / w 1 / m a1 0";
+    assert_eq!(sample(unfair), [11, 5, 1, 0]);
+    assert_eq!(sample("hex 2 2 D / opp b1 / opp b2 / m - 0"), [13, 0, 0, 0]);
+    assert_eq!(sample("hex 2 2 D / own a1 / m - 1 / w 2 / m a2 0 / m b2 0"), [13, 0, 0, 1]);
+    assert_eq!(sample("hex 2 2 D / opp b1 / m - 1 / w 2 / m a2 0 / m b2 0"), [13, 0, 0, 0]);
+    let bridge = "hex 3 2 D / own b1 / opp c1 / m - 1 / w 2 / m a2 0 / m b2 0";
+    assert_eq!(played(bridge, &[]), (done(0, false), vec![]));
+    assert_eq!(played(bridge, &[4]), (done(1, true), vec![5]));
+    assert_eq!(played(bridge, &[5]), (done(1, true), vec![4]));
+    assert_eq!(played(bridge, &[6]), (done(1, true), vec![4]));
+    assert_eq!(refused(bridge, &[2]), (17, 1, false));
+    assert_eq!(refused(bridge, &[3]), (17, 1, false));
+    assert_eq!(refused(bridge, &[7]), (16, 1, false));
+    assert_eq!(refused(bridge, &[4, 3]), (15, 2, false));
+    let column = "hex 1 4 D / own a2 / own a4 / m a1 1 / w 2 / m a3 0 / m a3 0";
+    assert_eq!(sample(column), [11, 5, 3, 0]);
+    assert_eq!(played("hex 1 3 D / own a3 / own a1 / m a2 0", &[]), (done(0, true), vec![]));
+}
+
+/// Reading 5: outcome lists own stones too, 14 compares with all, and the counts are the tree's.
+#[test]
+fn outcomes_with_set_up_stones() {
+    let bridge = "hex 3 2 D / opp c1 / own b1 / own c2 / m - 1 / w 2 / m a2 0 / m b2 0";
+    assert_eq!(counts(bridge), (3, 1, 2));
+    assert_eq!(listed(bridge, 0, 3), (0, vec![2, 4, 6]));
+    assert_eq!(listed(bridge, 1, 9), (0, vec![2, 5, 6]));
+    assert_eq!(listed(bridge, 1, 2), (14, vec![]));
+    assert_eq!(listed(bridge, 1, 0), (14, vec![]));
+    assert_eq!(listed(bridge, 2, 0), (18, vec![]));
+    assert_eq!(listed("hex 2 2 D / own b2 / own a1 / m - 0", 0, 2), (0, vec![1, 4]));
+    assert_eq!(listed("hex 2 2 D / own b2 / own a1 / m - 0", 0, 1), (14, vec![]));
+    assert_eq!(listed("hex 2 2 D / opp b2 / opp a1 / m - 0", 0, 0), (0, vec![]));
+    assert_eq!(listed("hex 2 2 D / own b2 / own b2 / m - 0", 0, 0), (19, vec![]));
+    let shared = "hex 4 1 D / own a1 / m - 2 / w 2 / m b1 0 / m c1 0 / w 2 / m d1 0 / m b1 0";
+    assert_eq!(listed(shared, 0, 9), (10, vec![]));
+}
+
+/// The last cell of 19 by 19 as an opponent's move that is answered, and the number after it.
+#[test]
+fn last_cell_of_nineteen() {
+    let own: String = (1..=18).map(|row| format!(" / own j{row}")).collect();
+    let last = format!("hex 19 19 D{own} / m - 1 / w 2 / m i19 0 / m j19 0");
+    assert_eq!(counts(&last), (3, 1, 2));
+    assert_eq!(played(&last, &[361]).1, vec![351]);
+    assert_eq!(refused(&last, &[362]), (16, 1, false));
+    assert_eq!(refused(&last, &[10]), (17, 1, false));
+    let cells = listed(&last, 1, 19).1;
+    assert_eq!((cells.len(), cells[0], cells[18]), (19, 10, 352));
+}

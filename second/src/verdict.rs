@@ -22,6 +22,8 @@ pub enum Verdict {
     NoSuchCell,
     Taken,
     NoSuchOutcome,
+    NamedTwice { line: usize, cell: usize },
+    OnStone { line: usize, cell: usize },
 }
 
 impl Verdict {
@@ -47,6 +49,8 @@ impl Verdict {
             Verdict::NoSuchCell => [16, 0, 0, 0],
             Verdict::Taken => [17, 0, 0, 0],
             Verdict::NoSuchOutcome => [18, 0, 0, 0],
+            Verdict::NamedTwice { line, cell } => [19, line, cell, 0],
+            Verdict::OnStone { line, cell } => [20, line, cell, 0],
         }
     }
 }

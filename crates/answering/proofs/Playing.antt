@@ -1,6 +1,6 @@
 -- The loop over the moves: the game so far, and what is left of the rounds.
 use mathlib.Core.Path.{_≡_, refl, sym, ap, ap₂, _∙_, subst}
-use mathlib.Core.Bool.{Bool, false, not, _||_, or-comm, or-false}
+use mathlib.Core.Bool.{Bool, not, _||_, or-comm, or-false}
 use Prim.Native.Nat.{ℕ, suc, _+_, _<_, _≤_}
 use native.Mathlib.Numerals.{add-one}
 use native.Mathlib.Omega.{arith}
@@ -11,7 +11,7 @@ use lib.Seq.{drop-cons, set-append-seam}
 use Rattle.rules.specs.Sizes.{mostNodes}
 use Rattle.rules.specs.Words.{among}
 use Rattle.rules.specs.Board.{isCell}
-use Rattle.rules.specs.Tree.{Waits, Sheet, stone}
+use Rattle.rules.specs.Tree.{Waits, Sheet, stone, ownCells, oppCells, atStart}
 use Rattle.rules.specs.Joining.{joined}
 use Rattle.rules.specs.Plain.{WellRead}
 use Rattle.rules.specs.Reading.{Result, refused, got}
@@ -31,6 +31,8 @@ use Rattle.cells.proofs.Places.{size-fits}
 use Rattle.cells.specs.Cells.{held, Fits}
 use Rattle.nodes.specs.Nodes.{aMove, size, nodesOfWaits}
 use Rattle.nodes.specs.Table.{endIn, SomeNode}
+use Rattle.cells.specs.declared.Cells.{Cells}
+use Rattle.nodes.specs.Sheets.{HeldStones}
 use Rattle.answering.specs.Rows.{Ended, SameRows, Remarked, Started}
 use Rattle.answering.specs.Marks.{Opens}
 use Rattle.answering.specs.Choosing.{Asked, SomeAsked, Answered}
@@ -78,6 +80,23 @@ module _ {t : List ℕ} {b : Board} {p : Player} {s : Sheet} (h : Playable t b p
         },
       )
 
+-- the sets are those of the stones at the start
+pub record StartAt (b : Board) (s : Sheet) (ours theirs : List ℕ) : Type 0 where
+  pub ours-held : (x : ℕ) → held b ours x ≡ among (atStart s) x
+  pub theirs-held : (x : ℕ) → held b theirs x ≡ among (oppCells (s .set-up)) x
+
+pub start-at : (b : Board) (s : Sheet) (own opp : Cells) (ours : List ℕ) (root : ℕ) → HeldStones b (s .set-up) own opp → root ≡ s .root .cell
+    → ((x : ℕ) → held b ours x ≡ (held b (own .rows) x || among (stone root) x)) → StartAt b s ours (opp .rows)
+unfolding atStart
+start-at b s own opp ours root st e f =
+    record {
+      ours-held =
+          λ x. f x ∙ ap (λ (y : Bool). y || among (stone root) x) (st .own-held .same x)
+          ∙ ap (λ (y : ℕ). among (ownCells (s .set-up)) x || among (stone y) x) e
+          ∙ sym (among-append x (ownCells (s .set-up)) (stone (s .root .cell)));
+      theirs-held = st .opp-held .same;
+    }
+
 -- the game after i moves, by the table and the two sets of stones
 pub record Playing (b : Board) (s : Sheet) (moves room₀ t room ours theirs : List ℕ) (i : ℕ) : Type 0 where
   pub game : Game
@@ -98,16 +117,16 @@ unfolding roomAfter
 no-answers room = refl
 
 pub playing-starts : {b : Board} {s : Sheet} {t room ours theirs : List ℕ} (moves : List ℕ) → Opens (s .root .line) b t (s .root .waits)
-    → ((x : ℕ) → held b ours x ≡ among (stone (s .root .cell)) x) → ((x : ℕ) → held b theirs x ≡ false) → Playing b s moves room t room ours theirs 0
-unfolding start mine among
-playing-starts {b} {s} {t} {room} {ours} moves o f g =
+    → StartAt b s ours theirs → Playing b s moves room t room ours theirs 0
+unfolding start mine
+playing-starts {b} {s} {t} {room} {ours} moves o st =
     record {
       game = start s;
       so-far = [];
       ruled = no-move;
       are-open = o;
-      ours-are = λ x. f x ∙ ap (λ (l : List ℕ). among l x) (sym (append-nil (stone (s .root .cell))));
-      theirs-are = g;
+      ours-are = λ x. st .ours-held x ∙ ap (λ (l : List ℕ). among l x) (sym (append-nil (atStart s)));
+      theirs-are = st .theirs-held;
       many = refl;
       rounds-are = refl;
       reached-is = refl;
@@ -269,8 +288,8 @@ pub wrote-long : {room later : List ℕ} {i c : ℕ} → Wrote room later i c �
 wrote-long {room = room} {i = i} {c = c} w = ap length (w .stored) ∙ length-set room i c
 
 -- the loop's invariant; the table was t₀ where the loop began
-pub record Going (b : Board) (p : Player) (moves t₀ room₀ t room ours theirs : List ℕ) (i : ℕ) : Type 0 where
+pub record Going (b : Board) (p : Player) (moves t₀ room₀ ours₀ theirs₀ t room ours theirs : List ℕ) (i : ℕ) : Type 0 where
   pub turns : i ≤ length moves
   pub rows : Remarked t₀ t
   pub long : length room ≡ length room₀
-  pub plays : (s : Sheet) → Playable t₀ b p s → Playing b s moves room₀ t room ours theirs i
+  pub plays : (s : Sheet) → Playable t₀ b p s → StartAt b s ours₀ theirs₀ → Playing b s moves room₀ t room ours theirs i

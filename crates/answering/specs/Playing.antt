@@ -15,8 +15,10 @@ use Rattle.rules.specs.declared.Board.{Board}
 use Rattle.rules.specs.declared.Player.{Player}
 use Rattle.rules.specs.declared.Verdict.the-variants.{Done, AfterOver, NoSuchCell, CellTaken}
 use Rattle.rules.specs.declared.Played as declared
+use Rattle.cells.specs.declared.Cells.{Cells}
 use Rattle.nodes.specs.Nodes.{aMove, nodesOfWaits}
 use Rattle.nodes.specs.Table.{At}
+use Rattle.nodes.specs.Sheets.{HeldStones}
 use Rattle.answering.specs.Rows.{EndedOn, Remarked}
 use Rattle.answering.specs.Marks.{Opens}
 use Rattle.answering.specs.declared.Refusal.{Refusal}
@@ -31,10 +33,11 @@ pub record Playable (t : List ℕ) (b : Board) (p : Player) (s : Sheet) : Type 0
   pub is-accepted : (workspace : ℕ) × (text : Bytes) × (accepted workspace text ≡ got s)
   pub root : At (EndedOn b t) aMove 0 (s .root .cell) (nodesOfWaits (s .root .waits))
 
--- some sheet is one
-pub record SomePlayable (t : List ℕ) (b : Board) (p : Player) : Type 0 where
+-- some sheet is such a one, and has these set-up stones
+pub record SomePlayable (t : List ℕ) (b : Board) (p : Player) (own opp : Cells) : Type 0 where
   pub sheet : Sheet
   pub playable : Playable t b p sheet
+  pub stones : HeldStones b (sheet .set-up) own opp
 
 -- what a refusal stands for
 abbrev pub refusalOf : Refusal → Result (Unit {0})

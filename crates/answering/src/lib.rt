@@ -10,6 +10,7 @@ ghost use Rattle.rules.specs.declared.Board as declared;
 ghost use Rattle.cells.specs.Cells.{held, Fits};
 ghost use Rattle.nodes.specs.Nodes.{aMove, Nodes};
 ghost use Rattle.nodes.specs.Table.{endIn, At, SomeNode};
+ghost use Rattle.nodes.specs.Sheets.{HeldStones};
 ghost use Rattle.answering.specs.Rows.{Ended, withMark, Cleared, marked, Started};
 ghost use Rattle.answering.specs.Marks.{Opens, SomeOpen, SomeWaiting};
 ghost use Rattle.answering.specs.Choosing.{holdsAt, touchedIn, nodeThere, Dodge, SomeDodge, Asked, SomeAsked, Chosen, Answered};
@@ -209,22 +210,25 @@ fn open_start(t: &mut [u32])
     open_under(t, 0);
 }
 
-// Plays the moves: the table holds an accepted sheet. The answers are written into the first places of the room, which has one for each wait.
+// Plays the moves: the table holds an accepted sheet, and the sets the player's own and the opponent's set-up stones. The answers are
+// written into the first places of the room, which has one for each wait.
 pub fn play_moves(
     t: &mut [u32],
     board: Board,
     player: Player,
+    own: Cells,
+    opp: Cells,
     moves: &[u32],
     room: &mut [u32],
 ) -> PlayedOut
-    requires holds { ⌜ SomePlayable (now t) board player ⌝ }
+    requires holds { ⌜ SomePlayable (now t) board player own opp ⌝ }
     requires enough { ⌜ mostNodes ≤ length (now room) ⌝ }
-    ensures { λ r. ⌜ ((s : Sheet) → Playable (now (t .entry)) board player s → PlaysMoves s (now (t .entry)) (now (moves .entry)) (now (room .entry)) r (now (t .exit)) (now (room .exit))) ⌝ }
+    ensures { λ r. ⌜ ((s : Sheet) → Playable (now (t .entry)) board player s → HeldStones board (s .set-up) own opp → PlaysMoves s (now (t .entry)) (now (moves .entry)) (now (room .entry)) r (now (t .exit)) (now (room .exit))) ⌝ }
 {
     open_start(t);
     let root = cell_at(t, 0);
-    let mut mine = with_stone(Cells::empty(), board, root);
-    let mut theirs = Cells::empty();
+    let mut mine = with_stone(own, board, root);
+    let mut theirs = opp;
     let mut i = 0;
     while i < moves.len() {
         let cell = wide(moves[i]);

@@ -5,6 +5,7 @@ use mathlib.Core.Path.{_≡_}
 use Prim.Native.Nat.{ℕ, _/_, _%_, _^_, _≤_}
 use lib.Dec.{eqb}
 use lib.ListN.{length, getD, drop}
+use Rattle.rules.specs.Words.{among}
 use Rattle.rules.specs.Board.{isCell, columnOf, rowOf}
 use Rattle.rules.specs.declared.Board.{Board}
 
@@ -15,6 +16,10 @@ digit n k = n / 2 ^ k % 2
 -- x is a cell of the board, and digit c of word r is set, where c is its column and r its row
 unfoldable pub held : Board → List ℕ → ℕ → Bool
 held b rows x = isCell b x && eqb (digit (getD rows (rowOf b x) 0) (columnOf b x)) 1
+
+-- the set is that of these cells
+pub record Holds (b : Board) (rows xs : List ℕ) : Type 0 where
+  pub same : (x : ℕ) → held b rows x ≡ among xs x
 
 -- a board whose cells have their place in the words, with a border on every side
 pub record Fits (b : Board) : Type 0 where

@@ -111,7 +111,7 @@ module _ {b : Board} {t : List ℕ} {cell : ℕ} {once twice : List ℕ} {i unde
       })
 
   -- all are
-  pub tallying-done : under ≤ j → ((m : Move) → MoveAt b t i m → cell ≡ m .cell) → FoundAtMove b t i twice
+  pub tallying-done : under ≤ j → ((m : Move) → MoveAt b t i m → cell ≡ m .cell) → FoundAtMove notApart b t i twice
   unfolding holdingIn notApart crowded
   tallying-done p own m n x q =
       let d = walking-ends w p (m .cell) (nodesOfWaits (m .waits)) n in
@@ -172,7 +172,7 @@ module _ {b : Board} {t : List ℕ} {rows : List ℕ} {i under next j : ℕ} (w 
       })
 
   -- met with all
-  pub meeting-done : under ≤ j → FoundAtWait b t i rows
+  pub meeting-done : under ≤ j → FoundAtWait notElusive b t i rows
   unfolding everyIn notElusive
   meeting-done p v n x q =
       let d = walking-ends w p 0 (nodesOfMoves (v .moves)) n in

@@ -1,5 +1,5 @@
 -- The search for the first faulty node: a loop over the node numbers finds the fault that rules finds over the moves, or over the waits.
-use mathlib.Core.Path.{_≡_, refl, sym, ap, _∙_}
+use mathlib.Core.Path.{_≡_, refl, sym, ap, fun-ext, _∙_}
 use mathlib.Core.Logic.{_≢_}
 use mathlib.Core.Bool.{Bool, false}
 use mathlib.Core.Option.{Option, none, some}
@@ -12,8 +12,9 @@ use lib.ListN.{length}
 use Rattle.rules.specs.Sizes.{mostNodes}
 use Rattle.rules.specs.declared.Board.{Board}
 use Rattle.rules.specs.Board.{isCell, cells, smallest}
-use Rattle.rules.specs.Tree.{Wait, Move, Sheet, everyMove, everyWait}
-use Rattle.rules.specs.Fair.{Fault, notApart, notElusive, faultAt, firstFault, firstNotApart, firstNotElusive}
+use Rattle.rules.specs.Words.{among}
+use Rattle.rules.specs.Tree.{Wait, Move, Sheet, setUpCells, everyMove, everyWait}
+use Rattle.rules.specs.Fair.{Fault, onSetUp, notApart, notElusive, faultAt, firstFault, firstOnSetUp, firstNotApart, firstNotElusive}
 use Rattle.rules.proofs.Tests.{snd}
 use Rattle.rules.proofs.Smallest.{smallest-zero}
 use Rattle.rules.proofs.Places.{cell-range}
@@ -24,10 +25,10 @@ use Rattle.nodes.specs.Order.{TreeNode, isMove, isWait, movesAmong, waitsAmong}
 use Rattle.nodes.specs.Sheets.{HoldsSheet, SomeSheet}
 use Rattle.nodes.proofs.Order.{waits-length, moves-of-waits, waits-of-waits}
 use Rattle.nodes.proofs.Sheets.{sheet-end}
-use Rattle.fair.specs.Faults.{firstBy, faultyBy, lineOf, NodeAt, SomeTreeNode, FoundAt, FaultFound}
+use Rattle.fair.specs.Faults.{notFree, firstBy, atMoves, atWaits, faultyBy, lineOf, NodeAt, SomeTreeNode, FoundAt, FaultFound}
 use Rattle.fair.specs.declared.Fault.the-variants.{At, Nothing}
 use Rattle.fair.specs.declared.Test.{Test}
-use Rattle.fair.specs.declared.Test.the-variants.{Apart, Elusive}
+use Rattle.fair.specs.declared.Test.the-variants.{Free, Apart, Elusive}
 use Rattle.fair.proofs.Laid.{Laid, laidNode, treeOf, sheet-laid}
 
 -- the first node of a list is not faulty, or it is
@@ -46,105 +47,110 @@ abbrev orElse : Option Fault → Option Fault → Option Fault
 orElse a b = elim a [ some f ↦ some f | none ↦ b ]
 
 -- the nodes of the other kind are passed over
-moves-first : (b : Board) (ns : List TreeNode) → firstFault b lineOf (faultyBy Apart) ns ≡ firstFault b (λ (m : Move). m .line) notApart (movesAmong ns)
+moves-first : (b : Board) (faulty : Move → ℕ → Bool) (ns : List TreeNode) → firstFault b lineOf (atMoves faulty) ns ≡ firstFault b (λ (m : Move). m .line) faulty (movesAmong ns)
 unfolding movesAmong firstFault
-moves-first b [] = refl
-moves-first b (isMove m ∷ ns) = ap (orElse (faultAt (m .line) (smallest b (notApart m)))) (moves-first b ns)
-moves-first b (isWait w ∷ ns) = first-passed b lineOf (faultyBy Apart) (isWait w) ns (smallest-zero b (λ x. false) (λ x i h. h)) ∙ moves-first b ns
+moves-first b faulty [] = refl
+moves-first b faulty (isMove m ∷ ns) = ap (orElse (faultAt (m .line) (smallest b (faulty m)))) (moves-first b faulty ns)
+moves-first b faulty (isWait w ∷ ns) = first-passed b lineOf (atMoves faulty) (isWait w) ns (smallest-zero b (λ x. false) (λ x i h. h)) ∙ moves-first b faulty ns
 
-waits-first : (b : Board) (ns : List TreeNode) → firstFault b lineOf (faultyBy Elusive) ns ≡ firstFault b (λ (w : Wait). w .line) notElusive (waitsAmong ns)
+waits-first : (b : Board) (faulty : Wait → ℕ → Bool) (ns : List TreeNode) → firstFault b lineOf (atWaits faulty) ns ≡ firstFault b (λ (w : Wait). w .line) faulty (waitsAmong ns)
 unfolding waitsAmong firstFault
-waits-first b [] = refl
-waits-first b (isMove m ∷ ns) = first-passed b lineOf (faultyBy Elusive) (isMove m) ns (smallest-zero b (λ x. false) (λ x i h. h)) ∙ waits-first b ns
-waits-first b (isWait w ∷ ns) = ap (orElse (faultAt (w .line) (smallest b (notElusive w)))) (waits-first b ns)
+waits-first b faulty [] = refl
+waits-first b faulty (isMove m ∷ ns) = first-passed b lineOf (atWaits faulty) (isMove m) ns (smallest-zero b (λ x. false) (λ x i h. h)) ∙ waits-first b faulty ns
+waits-first b faulty (isWait w ∷ ns) = ap (orElse (faultAt (w .line) (smallest b (faulty w)))) (waits-first b faulty ns)
 
-tree-first : (test : Test) (s : Sheet) → firstBy test s ≡ firstFault (s .board) lineOf (faultyBy test) (treeOf s)
-unfolding firstNotApart firstNotElusive everyMove everyWait movesAmong waitsAmong
-tree-first Apart s =
-    ap (λ (l : List Move). firstFault (s .board) (λ (m : Move). m .line) notApart (s .root ∷ l)) (sym (moves-of-waits (s .root .waits)))
-    ∙ sym (moves-first (s .board) (treeOf s))
-tree-first Elusive s =
+tree-moves : (faulty : Move → ℕ → Bool) (s : Sheet) → firstFault (s .board) (λ (m : Move). m .line) faulty (everyMove s) ≡ firstFault (s .board) lineOf (atMoves faulty) (treeOf s)
+unfolding everyMove movesAmong
+tree-moves faulty s =
+    ap (λ (l : List Move). firstFault (s .board) (λ (m : Move). m .line) faulty (s .root ∷ l)) (sym (moves-of-waits (s .root .waits)))
+    ∙ sym (moves-first (s .board) faulty (treeOf s))
+
+tree-first : (test : Test) (stones : ℕ → Bool) (s : Sheet) → firstBy test stones s ≡ firstFault (s .board) lineOf (faultyBy test stones) (treeOf s)
+unfolding firstNotApart firstNotElusive everyWait waitsAmong
+tree-first Free stones s = tree-moves (notFree stones) s
+tree-first Apart stones s = tree-moves notApart s
+tree-first Elusive stones s =
     ap (λ (l : List Wait). firstFault (s .board) (λ (w : Wait). w .line) notElusive l) (sym (waits-of-waits (s .root .waits)))
-    ∙ sym (waits-first (s .board) (treeOf s))
+    ∙ sym (waits-first (s .board) notElusive (treeOf s))
 
 -- of a held sheet, the nodes from i on are left, and its first fault is theirs
-pub record Left (test : Test) (b : Board) (t : List ℕ) (i end : ℕ) (s : Sheet) : Type 0 where
+pub record Left (test : Test) (stones : ℕ → Bool) (b : Board) (t : List ℕ) (i end : ℕ) (s : Sheet) : Type 0 where
   pub rest : List TreeNode
   pub laid : Laid b t (s .root .line) i rest
   pub to-end : i + length rest ≡ end
-  pub same : firstBy test s ≡ firstFault b lineOf (faultyBy test) rest
+  pub same : firstBy test stones s ≡ firstFault b lineOf (faultyBy test stones) rest
 
 -- the loop's invariant: so it is of whatever sheet is held
-abbrev pub Searching : Test → Board → List ℕ → (i end : ℕ) → Type 0
-Searching test b t i end = (s : Sheet) → HoldsSheet t b s → Left test b t i end s
+abbrev pub Searching : Test → (stones : ℕ → Bool) → Board → List ℕ → (i end : ℕ) → Type 0
+Searching test stones b t i end = (s : Sheet) → HoldsSheet t b s → Left test stones b t i end s
 
-pub search-starts : (test : Test) (b : Board) (t : List ℕ) (end : ℕ) → end ≡ endIn t 0 → Searching test b t 0 end
-search-starts test b t end e s h =
+pub search-starts : (test : Test) (stones : ℕ → Bool) (b : Board) (t : List ℕ) (end : ℕ) → end ≡ endIn t 0 → Searching test stones b t 0 end
+search-starts test stones b t end e s h =
     record {
       rest = treeOf s;
       laid = sheet-laid s h;
       to-end = omega (arith, sheet-end h, waits-length (s .root .waits));
-      same = tree-first test s ∙ ap (λ (z : Board). firstFault z lineOf (faultyBy test) (treeOf s)) (h .on);
+      same = tree-first test stones s ∙ ap (λ (z : Board). firstFault z lineOf (faultyBy test stones) (treeOf s)) (h .on);
     }
 
 -- while some are left, one is at i, on its line
-record Next (test : Test) (b : Board) (t : List ℕ) (i end : ℕ) (s : Sheet) : Type 0 where
+record Next (test : Test) (stones : ℕ → Bool) (b : Board) (t : List ℕ) (i end : ℕ) (s : Sheet) : Type 0 where
   node : TreeNode
   at : NodeAt b t i node
   line-is : lineOf node ≡ i + s .root .line
   others : List TreeNode
   laid : Laid b t (s .root .line) (i + 1) others
   to-end : i + 1 + length others ≡ end
-  same : firstBy test s ≡ firstFault b lineOf (faultyBy test) (node ∷ others)
+  same : firstBy test stones s ≡ firstFault b lineOf (faultyBy test stones) (node ∷ others)
 
-next-node : {test : Test} {b : Board} {t : List ℕ} {i end : ℕ} {s : Sheet} → i < end → Left test b t i end s → Next test b t i end s
-next-node {test} {b} {t} {i} {end} {s} p l = go (l .rest) (l .laid) (l .to-end) (l .same)
+next-node : {test : Test} {stones : ℕ → Bool} {b : Board} {t : List ℕ} {i end : ℕ} {s : Sheet} → i < end → Left test stones b t i end s → Next test stones b t i end s
+next-node {test} {stones} {b} {t} {i} {end} {s} p l = go (l .rest) (l .laid) (l .to-end) (l .same)
   where
-    go : (ns : List TreeNode) → Laid b t (s .root .line) i ns → i + length ns ≡ end → firstBy test s ≡ firstFault b lineOf (faultyBy test) ns → Next test b t i end s
+    go : (ns : List TreeNode) → Laid b t (s .root .line) i ns → i + length ns ≡ end → firstBy test stones s ≡ firstFault b lineOf (faultyBy test stones) ns → Next test stones b t i end s
     go [] o e q = absurd (omega arith)
     go (n ∷ ns) (laidNode a k o) e q = record { node = n; at = a; line-is = k; others = ns; laid = o; to-end = omega arith; same = q }
 
-module _ {test : Test} {b : Board} {t : List ℕ} {i end : ℕ} (w : Searching test b t i end) where
+module _ {test : Test} {stones : ℕ → Bool} {b : Board} {t : List ℕ} {i end : ℕ} (w : Searching test stones b t i end) where
   pub search-node : i < end → SomeSheet t b → SomeTreeNode b t i
   search-node p s =
       let n = next-node p (w (s .sheet) (s .held)) in
       record { node = n .node; at = n .at }
 
-  module _ (p : i < end) (rows : List ℕ) (found : FoundAt test b t i rows) (c : ℕ) (e : c ≡ smallest b (held b rows)) where
-    its-cell : (n : TreeNode) → NodeAt b t i n → smallest b (faultyBy test n) ≡ c
-    its-cell n a = sym (e ∙ smallest-same b (held b rows) (faultyBy test n) (λ y k. found n a y (cell-range b y k .0)))
+  module _ (p : i < end) (rows : List ℕ) (found : FoundAt (faultyBy test stones) b t i rows) (c : ℕ) (e : c ≡ smallest b (held b rows)) where
+    its-cell : (n : TreeNode) → NodeAt b t i n → smallest b (faultyBy test stones n) ≡ c
+    its-cell n a = sym (e ∙ smallest-same b (held b rows) (faultyBy test stones n) (λ y k. found n a y (cell-range b y k .0)))
 
     -- it is not faulty
-    pub search-again : c ≡ 0 → Searching test b t (i + 1) end
+    pub search-again : c ≡ 0 → Searching test stones b t (i + 1) end
     search-again z s h =
         let n = next-node p (w s h) in
         record {
           rest = n .others;
           laid = n .laid;
           to-end = n .to-end;
-          same = n .same ∙ first-passed b lineOf (faultyBy test) (n .node) (n .others) (its-cell (n .node) (n .at) ∙ z);
+          same = n .same ∙ first-passed b lineOf (faultyBy test stones) (n .node) (n .others) (its-cell (n .node) (n .at) ∙ z);
         }
 
     -- it is the first that is
-    pub search-found : c ≢ 0 → (s : Sheet) → HoldsSheet t b s → i < mostNodes → FaultFound s (firstBy test s) (At i c)
+    pub search-found : c ≢ 0 → (s : Sheet) → HoldsSheet t b s → i < mostNodes → FaultFound s (firstBy test stones s) (At i c)
     search-found z s h low =
         let n = next-node p (w s h) in
         record {
           seen =
               sym
               (n .same
-              ∙ first-found b lineOf (faultyBy test) (n .node) (n .others) c (its-cell (n .node) (n .at)) z
+              ∙ first-found b lineOf (faultyBy test stones) (n .node) (n .others) c (its-cell (n .node) (n .at)) z
               ∙ ap (λ (l : ℕ). some (record { line = l; cell = c })) (n .line-is));
           low = low;
         }
 
   -- none is
-  pub search-ends : end ≤ i → (s : Sheet) → HoldsSheet t b s → FaultFound s (firstBy test s) Nothing
+  pub search-ends : end ≤ i → (s : Sheet) → HoldsSheet t b s → FaultFound s (firstBy test stones s) Nothing
   search-ends p s h =
       let l = w s h in
       record { seen = sym (l .same ∙ go (l .rest) (l .to-end)); low = tt }
     where
-      go : (ns : List TreeNode) → i + length ns ≡ end → firstFault b lineOf (faultyBy test) ns ≡ none
+      go : (ns : List TreeNode) → i + length ns ≡ end → firstFault b lineOf (faultyBy test stones) ns ≡ none
       go [] e = unfold firstFault in refl
       go (n ∷ ns) e = absurd (omega arith)
 
@@ -155,3 +161,8 @@ smallest-low b set f z =
     let i = smallest-held b set z .0 in
     let most : b .columns * b .rows ≤ 19 * 19 = mul-le-mul {n₂ = 19} {m₂ = 19} (f .few-columns) (f .few-rows) in
     omega (arith, leb→le (smallest b set) (b .columns * b .rows) (snd (leb 1 (smallest b set)) (leb (smallest b set) (b .columns * b .rows)) i))
+
+-- the stones are those of the sheet
+pub set-up-first : (stones : ℕ → Bool) (s : Sheet) → ((x : ℕ) → stones x ≡ among (setUpCells (s .set-up)) x) → firstBy Free stones s ≡ firstOnSetUp s
+unfolding firstOnSetUp onSetUp
+set-up-first stones s e = ap (λ (f : ℕ → Bool). firstFault (s .board) (λ (m : Move). m .line) (notFree f) (everyMove s)) (fun-ext e)

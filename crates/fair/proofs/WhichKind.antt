@@ -1,7 +1,7 @@
 -- Which kind of node stands at a node number: the first node is a move, and any other that has a cell.
 use mathlib.Core.Path.{_≡_, refl, sym, _∙_}
 use mathlib.Core.Logic.{_≢_, ⊎-elim}
-use mathlib.Core.Bool.{true, false, true≢false, false≢true}
+use mathlib.Core.Bool.{Bool, true, false, true≢false, false≢true}
 use Prim.Native.Nat.{ℕ, _+_, _*_, _<_, _≤_}
 use native.Mathlib.Nat.{eq-zero-or-pos}
 use native.Mathlib.Omega.{arith}
@@ -14,9 +14,8 @@ use Rattle.cells.specs.Cells.{held}
 use Rattle.nodes.specs.Nodes.{aWait, aMove, nodesOfWaits, nodesOfMoves, many}
 use Rattle.nodes.specs.Table.{cellIn, underIn, RowOn, SomeNode, isMoveAt}
 use Rattle.nodes.specs.Order.{TreeNode, isMove, isWait}
-use Rattle.fair.specs.Faults.{faultyBy, MoveAt, WaitAt, NodeAt, moveAt, waitAt, SomeTreeNode, FoundAtMove, FoundAtWait, FoundAt}
+use Rattle.fair.specs.Faults.{atMoves, atWaits, faultyBy, MoveAt, WaitAt, NodeAt, moveAt, waitAt, SomeTreeNode, FoundAtMove, FoundAtWait, FoundAt}
 use Rattle.fair.specs.declared.Test.{Test}
-use Rattle.fair.specs.declared.Test.the-variants.{Apart, Elusive}
 
 module _ {b : Board} {t : List ℕ} {i : ℕ} where
   move-is : (m : Move) → MoveAt b t i m → (1 ≤ i → 1 ≤ m .cell) → isMoveAt t i ≡ true
@@ -59,16 +58,20 @@ module _ {b : Board} {t : List ℕ} {i : ℕ} where
       go (moveAt a g) = a .here .row .room
       go (waitAt a p g) = a .here .row .room
 
-  -- the faulty cells by either test
-  module _ {test : Test} (rows : List ℕ) where
-    pub found-move : test ≡ Apart → isMoveAt t i ≡ true → FoundAtMove b t i rows → FoundAt test b t i rows
-    found-move q e f = rw q (of-move e (λ n. (x : ℕ) → 1 ≤ x → held b rows x ≡ faultyBy Apart n x) f)
+  -- by what is asked of moves alone, or of waits alone: what is found where such a node stands, and nothing where none does
+  module _ (rows : List ℕ) where
+    pub found-move : (faulty : Move → ℕ → Bool) → isMoveAt t i ≡ true → FoundAtMove faulty b t i rows → FoundAt (atMoves faulty) b t i rows
+    found-move faulty e f = of-move e (λ n. (x : ℕ) → 1 ≤ x → held b rows x ≡ atMoves faulty n x) f
 
-    pub found-wait : test ≡ Elusive → isMoveAt t i ≡ false → FoundAtWait b t i rows → FoundAt test b t i rows
-    found-wait q e f = rw q (of-wait e (λ n. (x : ℕ) → 1 ≤ x → held b rows x ≡ faultyBy Elusive n x) (λ w a g. f w a))
+    pub found-wait : (faulty : Wait → ℕ → Bool) → isMoveAt t i ≡ false → FoundAtWait faulty b t i rows → FoundAt (atWaits faulty) b t i rows
+    found-wait faulty e f = of-wait e (λ n. (x : ℕ) → 1 ≤ x → held b rows x ≡ atWaits faulty n x) (λ w a g. f w a)
 
-    pub none-wait : test ≡ Apart → isMoveAt t i ≡ false → ((x : ℕ) → held b rows x ≡ false) → FoundAt test b t i rows
-    none-wait q e f = rw q (of-wait e (λ n. (x : ℕ) → 1 ≤ x → held b rows x ≡ faultyBy Apart n x) (λ w a g x p. f x))
+    pub none-wait : (faulty : Move → ℕ → Bool) → isMoveAt t i ≡ false → ((x : ℕ) → held b rows x ≡ false) → FoundAt (atMoves faulty) b t i rows
+    none-wait faulty e f = of-wait e (λ n. (x : ℕ) → 1 ≤ x → held b rows x ≡ atMoves faulty n x) (λ w a g x p. f x)
 
-    pub none-move : test ≡ Elusive → isMoveAt t i ≡ true → ((x : ℕ) → held b rows x ≡ false) → FoundAt test b t i rows
-    none-move q e f = rw q (of-move e (λ n. (x : ℕ) → 1 ≤ x → held b rows x ≡ faultyBy Elusive n x) (λ m a x p. f x))
+    pub none-move : (faulty : Wait → ℕ → Bool) → isMoveAt t i ≡ true → ((x : ℕ) → held b rows x ≡ false) → FoundAt (atWaits faulty) b t i rows
+    none-move faulty e f = of-move e (λ n. (x : ℕ) → 1 ≤ x → held b rows x ≡ atWaits faulty n x) (λ m a x p. f x)
+
+    -- which test it is
+    pub by-test : {test is : Test} (stones : ℕ → Bool) → test ≡ is → FoundAt (faultyBy is stones) b t i rows → FoundAt (faultyBy test stones) b t i rows
+    by-test stones q f = rw q f

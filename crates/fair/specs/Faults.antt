@@ -1,21 +1,22 @@
 -- What the tests of fair sheets answer: the faulty cells of a node of the table, and the first fault of a sheet.
 use mathlib.Core.Path.{_≡_}
 use mathlib.Core.Logic.{_≢_}
-use mathlib.Core.Bool.{Bool, false, not, _&&_, _||_}
+use mathlib.Core.Bool.{Bool, false, _&&_, _||_}
 use mathlib.Core.List.{List}
 use mathlib.Core.Option.{Option, none, some}
 use Prim.Native.Nat.{ℕ, _+_, _<_, _≤_}
+use lib.Dec.{eqb}
 use Rattle.rules.specs.Sizes.{mostNodes}
 use Rattle.rules.specs.declared.Board.{Board}
-use Rattle.rules.specs.Tree.{noMoves, Wait, Move, Sheet}
-use Rattle.rules.specs.Fair.{Fault, notApart, notElusive, firstNotApart, firstNotElusive}
+use Rattle.rules.specs.Tree.{noMoves, Wait, Move, Sheet, everyMove}
+use Rattle.rules.specs.Fair.{Fault, notApart, notElusive, firstFault, firstNotApart, firstNotElusive}
 use Rattle.cells.specs.Cells.{held}
 use Rattle.nodes.specs.Nodes.{aWait, aMove, nodesOfWaits, nodesOfMoves}
 use Rattle.nodes.specs.Table.{RowOn, At}
 use Rattle.nodes.specs.Order.{TreeNode, isMove, isWait}
 use Rattle.fair.specs.declared.Fault as answered
 use Rattle.fair.specs.declared.Test.{Test}
-use Rattle.fair.specs.declared.Test.the-variants.{Apart, Elusive}
+use Rattle.fair.specs.declared.Test.the-variants.{Free, Apart, Elusive}
 
 -- the fault that an answer tells, where the first node's line is `first`
 abbrev pub faultSeen : (first : ℕ) → answered.Fault → Option Fault
@@ -32,17 +33,30 @@ pub record FaultFound (s : Sheet) (fault : Option Fault) (r : answered.Fault) : 
   pub seen : faultSeen (s .root .line) r ≡ fault
   pub low : FaultLow r
 
--- the first fault of a sheet by a test
-abbrev pub firstBy : Test → Sheet → Option Fault
-firstBy Apart s = firstNotApart s
-firstBy Elusive s = firstNotElusive s
+-- at a move, its cell is faulty if one of the stones is on it
+abbrev pub notFree : (stones : ℕ → Bool) → Move → ℕ → Bool
+notFree stones m x = eqb x (m .cell) && stones x
 
--- x is faulty at a node by a test: only a move is not apart, only a wait is not elusive
-abbrev pub faultyBy : Test → TreeNode → ℕ → Bool
-faultyBy Apart (isMove m) x = notApart m x
-faultyBy Apart (isWait w) x = false
-faultyBy Elusive (isMove m) x = false
-faultyBy Elusive (isWait w) x = notElusive w x
+-- the first fault of a sheet by a test
+abbrev pub firstBy : Test → (stones : ℕ → Bool) → Sheet → Option Fault
+firstBy Free stones s = firstFault (s .board) (λ (m : Move). m .line) (notFree stones) (everyMove s)
+firstBy Apart stones s = firstNotApart s
+firstBy Elusive stones s = firstNotElusive s
+
+-- x is faulty at a node by what is asked of moves alone, or of waits alone
+abbrev pub atMoves : (Move → ℕ → Bool) → TreeNode → ℕ → Bool
+atMoves faulty (isMove m) x = faulty m x
+atMoves faulty (isWait w) x = false
+
+abbrev pub atWaits : (Wait → ℕ → Bool) → TreeNode → ℕ → Bool
+atWaits faulty (isMove m) x = false
+atWaits faulty (isWait w) x = faulty w x
+
+-- x is faulty at a node by a test
+abbrev pub faultyBy : Test → (stones : ℕ → Bool) → TreeNode → ℕ → Bool
+faultyBy Free stones = atMoves (notFree stones)
+faultyBy Apart stones = atMoves notApart
+faultyBy Elusive stones = atWaits notElusive
 
 -- the line of a node of the tree
 abbrev pub lineOf : TreeNode → ℕ
@@ -67,14 +81,14 @@ pub record SomeTreeNode (b : Board) (t : List ℕ) (i : ℕ) : Type 0 where
   pub at : NodeAt b t i node
 
 -- a set is the faulty cells of the move, the wait, the node that stands at node i, whatever it is
-abbrev pub FoundAtMove : Board → List ℕ → ℕ → List ℕ → Type 0
-FoundAtMove b t i rows = (m : Move) → MoveAt b t i m → (x : ℕ) → 1 ≤ x → held b rows x ≡ notApart m x
+abbrev pub FoundAtMove : (faulty : Move → ℕ → Bool) → Board → List ℕ → ℕ → List ℕ → Type 0
+FoundAtMove faulty b t i rows = (m : Move) → MoveAt b t i m → (x : ℕ) → 1 ≤ x → held b rows x ≡ faulty m x
 
-abbrev pub FoundAtWait : Board → List ℕ → ℕ → List ℕ → Type 0
-FoundAtWait b t i rows = (w : Wait) → WaitAt b t i w → (x : ℕ) → 1 ≤ x → held b rows x ≡ notElusive w x
+abbrev pub FoundAtWait : (faulty : Wait → ℕ → Bool) → Board → List ℕ → ℕ → List ℕ → Type 0
+FoundAtWait faulty b t i rows = (w : Wait) → WaitAt b t i w → (x : ℕ) → 1 ≤ x → held b rows x ≡ faulty w x
 
-abbrev pub FoundAt : Test → Board → List ℕ → ℕ → List ℕ → Type 0
-FoundAt test b t i rows = (n : TreeNode) → NodeAt b t i n → (x : ℕ) → 1 ≤ x → held b rows x ≡ faultyBy test n x
+abbrev pub FoundAt : (faulty : TreeNode → ℕ → Bool) → Board → List ℕ → ℕ → List ℕ → Type 0
+FoundAt faulty b t i rows = (n : TreeNode) → NodeAt b t i n → (x : ℕ) → 1 ≤ x → held b rows x ≡ faulty n x
 
 -- one more set in a tally of the cells found once or more, and twice or more
 pub record OneMoreSet (once twice more once′ twice′ : List ℕ) : Type 0 where

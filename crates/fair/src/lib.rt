@@ -1,13 +1,15 @@
-// fair: apart and elusive, decided over the node table. It holds the two searches for the first faulty node, each with that node's
-// smallest faulty cell. It sees rules, cells and nodes.
-ghost use Prim.Native.Nat.{_+_, _<_, _≤_};
-ghost use Rattle.rules.specs.Fair.{firstNotApart, firstNotElusive};
-ghost use Rattle.rules.specs.Tree.{Sheet};
-ghost use Rattle.cells.specs.Cells.{Fits};
+// fair: free, apart and elusive, decided over the node table. It holds the three searches for the first faulty node, each with
+// that node's smallest faulty cell. It sees rules, cells and nodes.
+ghost use mathlib.Core.Path.{_≡_};
+ghost use Prim.Native.Nat.{ℕ, _+_, _<_, _≤_};
+ghost use lib.Dec.{eqb};
+ghost use Rattle.rules.specs.Fair.{notApart, notElusive, firstOnSetUp, firstNotApart, firstNotElusive};
+ghost use Rattle.rules.specs.Tree.{Sheet, setUpCells};
+ghost use Rattle.cells.specs.Cells.{held, Holds, Fits};
 ghost use Rattle.nodes.specs.Nodes.{aWait, aMove};
-ghost use Rattle.nodes.specs.Table.{underIn, RowOn, SomeNode};
+ghost use Rattle.nodes.specs.Table.{cellIn, underIn, RowOn, SomeNode};
 ghost use Rattle.nodes.specs.Sheets.{HoldsSheet, SomeSheet};
-ghost use Rattle.fair.specs.Faults.{FaultFound, firstBy, SomeTreeNode, FoundAtMove, FoundAtWait, FoundAt, OneMoreSet};
+ghost use Rattle.fair.specs.Faults.{FaultFound, firstBy, faultyBy, SomeTreeNode, FoundAtMove, FoundAtWait, FoundAt, OneMoreSet};
 use cells::Cells;
 use nodes::cell_at;
 use nodes::collect_move;
@@ -24,8 +26,9 @@ pub enum Fault {
     Nothing,
 }
 
-// Which nodes are tested, and how: apart is asked of moves, elusive of waits.
+// Which nodes are tested, and how: free and apart are asked of moves, elusive of waits.
 enum Test {
+    Free,
     Apart,
     Elusive,
 }
@@ -51,15 +54,24 @@ impl Seen {
     }
 }
 
+// The own cell of the move at node i; none where it has none.
+fn own_at(table: &[u32], board: Board, i: usize) -> Cells
+    requires fits { ⌜ Fits board ⌝ }
+    requires stands { ⌜ SomeNode (RowOn board (now table)) aMove i ⌝ }
+    ensures { λ r. ⌜ ((x : ℕ) → 1 ≤ x → held board (r .rows) x ≡ eqb x (cellIn (now (table .entry)) i)) ⌝ }
+{
+    let cell = cell_at(table, i);
+    with_stone(Cells::empty(), board, cell)
+}
+
 // The faulty cells of the move at node i: its own where it is found under it, and those found in two or more of its waits.
 fn not_apart_at(table: &[u32], board: Board, i: usize) -> Cells
     requires fits { ⌜ Fits board ⌝ }
     requires stands { ⌜ SomeNode (RowOn board (now table)) aMove i ⌝ }
-    ensures { λ r. ⌜ FoundAtMove board (now (table .entry)) i (r .rows) ⌝ }
+    ensures { λ r. ⌜ FoundAtMove notApart board (now (table .entry)) i (r .rows) ⌝ }
 {
     let under = under_at(table, i);
-    let cell = cell_at(table, i);
-    let own = with_stone(Cells::empty(), board, cell);
+    let own = own_at(table, board, i);
     let mut seen = Seen {
         once: own,
         twice: Cells::empty(),
@@ -80,7 +92,7 @@ fn not_elusive_at(table: &[u32], board: Board, i: usize) -> Cells
     requires fits { ⌜ Fits board ⌝ }
     requires stands { ⌜ SomeNode (RowOn board (now table)) aWait i ⌝ }
     requires some { ⌜ 1 ≤ underIn (now table) i ⌝ }
-    ensures { λ r. ⌜ FoundAtWait board (now (table .entry)) i (r .rows) ⌝ }
+    ensures { λ r. ⌜ FoundAtWait notElusive board (now (table .entry)) i (r .rows) ⌝ }
 {
     let under = under_at(table, i);
     let first = collect_move(table, board, i + 1, Cells::empty());
@@ -96,14 +108,22 @@ fn not_elusive_at(table: &[u32], board: Board, i: usize) -> Cells
     cells
 }
 
-// The faulty cells of node i; none where it is of the kind that is not tested.
-fn faulty_at(table: &[u32], board: Board, i: usize, test: Test) -> Cells
+// The faulty cells of node i; none where it is of the kind that is not tested. No move is to stand on one of the stones.
+fn faulty_at(table: &[u32], board: Board, i: usize, test: Test, stones: Cells) -> Cells
     requires fits { ⌜ Fits board ⌝ }
     requires stands { ⌜ SomeTreeNode board (now table) i ⌝ }
-    ensures { λ r. ⌜ FoundAt test board (now (table .entry)) i (r .rows) ⌝ }
+    ensures { λ r. ⌜ FoundAt (faultyBy test (held board (stones .rows))) board (now (table .entry)) i (r .rows) ⌝ }
 {
     let of_move = is_move(table, i);
     match test {
+        Test::Free => {
+            if of_move {
+                let own = own_at(table, board, i);
+                own.meet(stones)
+            } else {
+                Cells::empty()
+            }
+        }
         Test::Apart => {
             if of_move {
                 not_apart_at(table, board, i)
@@ -122,13 +142,13 @@ fn faulty_at(table: &[u32], board: Board, i: usize, test: Test) -> Cells
 }
 
 // The first faulty node by the test.
-fn first_fault(table: &[u32], board: Board, test: Test) -> Fault
+fn first_fault(table: &[u32], board: Board, test: Test, stones: Cells) -> Fault
     requires { ⌜ SomeSheet (now table) board ⌝ }
-    ensures { λ r. ⌜ ((s : Sheet) → HoldsSheet (now (table .entry)) board s → FaultFound s (firstBy test s) r) ⌝ }
+    ensures { λ r. ⌜ ((s : Sheet) → HoldsSheet (now (table .entry)) board s → FaultFound s (firstBy test (held board (stones .rows)) s) r) ⌝ }
 {
     let end = end_at(table, 0);
     for i in 0..end {
-        let cell = faulty_at(table, board, i, test).least(board);
+        let cell = faulty_at(table, board, i, test, stones).least(board);
         if cell != 0 {
             return Fault::At {
                 node: i,
@@ -139,12 +159,20 @@ fn first_fault(table: &[u32], board: Board, test: Test) -> Fault
     Fault::Nothing
 }
 
+// 20: the first move on a set-up stone, given the cells of the stones.
+pub fn on_set_up(table: &[u32], board: Board, stones: Cells) -> Fault
+    requires { ⌜ SomeSheet (now table) board ⌝ }
+    ensures { λ r. ⌜ ((s : Sheet) → HoldsSheet (now (table .entry)) board s → Holds board (stones .rows) (setUpCells (s .set-up)) → FaultFound s (firstOnSetUp s) r) ⌝ }
+{
+    first_fault(table, board, Test::Free, stones)
+}
+
 // 10: the first move that is not apart.
 pub fn not_apart(table: &[u32], board: Board) -> Fault
     requires { ⌜ SomeSheet (now table) board ⌝ }
     ensures { λ r. ⌜ ((s : Sheet) → HoldsSheet (now (table .entry)) board s → FaultFound s (firstNotApart s) r) ⌝ }
 {
-    first_fault(table, board, Test::Apart)
+    first_fault(table, board, Test::Apart, Cells::empty())
 }
 
 // 11: the first wait that is not elusive.
@@ -152,5 +180,5 @@ pub fn not_elusive(table: &[u32], board: Board) -> Fault
     requires { ⌜ SomeSheet (now table) board ⌝ }
     ensures { λ r. ⌜ ((s : Sheet) → HoldsSheet (now (table .entry)) board s → FaultFound s (firstNotElusive s) r) ⌝ }
 {
-    first_fault(table, board, Test::Elusive)
+    first_fault(table, board, Test::Elusive, Cells::empty())
 }

@@ -4,7 +4,7 @@ use mathlib.Core.List.{List}
 use Prim.Native.Nat.{ℕ, _+_, _-_, _≤_}
 use native.Mathlib.Omega.{arith}
 use Rattle.rules.specs.Sizes.{mostNodes}
-use Rattle.rules.specs.Tree.{Sheet, everyWait, moveCount, waitCount}
+use Rattle.rules.specs.Tree.{Sheet, ownCells, atStart, everyWait, moveCount, waitCount}
 use Rattle.rules.specs.Reading.{Result, refused, got}
 use Rattle.rules.specs.Outcomes.{outcomes, outcomeCount}
 use Rattle.rules.specs.Entries.{_>>=_, refuseUnjoined, fair, counts, judged}
@@ -14,6 +14,7 @@ use Rattle.rules.specs.declared.Verdict.{Verdict}
 use Rattle.rules.specs.declared.Verdict.the-variants.{Accepted, NotJoined}
 use Rattle.rules.proofs.Given.{fault-joined}
 use Rattle.rules.proofs.WellRead.{nodes-of-waits}
+use Rattle.cells.specs.Cells.{Holds}
 use Rattle.nodes.specs.Table.{WeighedOn, At, endIn}
 use Rattle.nodes.specs.Nodes.{aMove, nodesOfWaits}
 use Rattle.nodes.specs.Sheets.{HoldsSheet}
@@ -55,13 +56,13 @@ module _ {t : List ℕ} {b : Board} {s : Sheet} (h : HoldsSheet t b s) where
     unfolding _>>=_
     accept-refused v e = rw (refused-of s (fair s) r f v e)
 
-    module _ (count : ℕ) (e : r ≡ FairRead.Got count) (u : Unjoined) (found : UnjoinedFound b p t 0 u) where
+    module _ (count : ℕ) (e : r ≡ FairRead.Got count) (own : List ℕ) (stones : Holds b own (ownCells (s .set-up))) (u : Unjoined) (found : UnjoinedFound b p t 0 own u) where
       is-fair : Passed s (fair s) count
       is-fair = passed-of s (fair s) r f count e
 
       walked : refuseUnjoined (s .board) (s .player) 0 (outcomes s) ≡ refusal u
-      unfolding outcomes
-      walked = rw (h .on, same) (found (s .root .cell) (s .root .waits) (countable count is-fair))
+      unfolding outcomes atStart
+      walked = rw (h .on, same) (found (s .root .cell) (s .root .waits) (ownCells (s .set-up)) (countable count is-fair) stones)
 
       walk-passing : (w : Result (Unit {0})) → refusal u ≡ w → passing s ≡ (w >>= λ v. got s)
       unfolding _>>=_

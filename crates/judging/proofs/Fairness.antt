@@ -1,26 +1,33 @@
--- 10, 11 and 12 of a held sheet, each with those after it, from what the searches and the table tell.
-use mathlib.Core.Path.{_≡_, sym, ap, _∙_, subst, subst⁻¹}
+-- 20, 10, 11 and 12 of a held sheet, each with those after it, from what the searches and the table tell.
+use mathlib.Core.Path.{_≡_, sym, ap, ap₂, _∙_, subst, subst⁻¹}
+use mathlib.Core.Bool.{_||_}
 use mathlib.Core.List.{List}
 use mathlib.Core.Option.{Option, none, some}
 use Prim.Native.Nat.{ℕ, _+_, _≤_, _<_}
+use lib.ListN.{length}
 use native.Mathlib.Omega.{arith}
 use borrow.Author.Tests.{lt-ltb, le-ltb}
 use Rattle.rules.specs.Sizes.{mostNodes, mostOutcomes}
-use Rattle.rules.specs.Tree.{Sheet}
+use Rattle.rules.specs.Tree.{Sheet, setUpCells}
 use Rattle.rules.specs.Reading.{Result, refused}
-use Rattle.rules.specs.Fair.{Fault, firstNotApart, firstNotElusive}
+use Rattle.rules.specs.Fair.{Fault, firstOnSetUp, firstNotApart, firstNotElusive}
 use Rattle.rules.specs.Outcomes.{outcomeCount}
 use Rattle.rules.specs.Entries.{_>>=_, refuseIf, refuseFault, fair}
 use Rattle.rules.specs.declared.Board.{Board}
 use Rattle.rules.specs.declared.Verdict.{Verdict}
-use Rattle.rules.specs.declared.Verdict.the-variants.{NotApart, NotElusive, TooManyOutcomes}
+use Rattle.rules.specs.declared.Verdict.the-variants.{OnSetUp, NotApart, NotElusive, TooManyOutcomes}
+use Rattle.rules.proofs.Lists.{none-long}
+use Rattle.rules.proofs.SetUp.{either-side}
+use Rattle.rules.proofs.Given.{bare-free}
+use Rattle.cells.specs.Cells.{held, Holds}
 use Rattle.nodes.specs.Nodes.{limited}
 use Rattle.nodes.specs.Table.{countIn}
-use Rattle.nodes.specs.Sheets.{HoldsSheet}
+use Rattle.nodes.specs.Sheets.{HoldsSheet, HoldsSetUp}
+use Rattle.nodes.specs.declared.SetUp.{SetUp}
 use Rattle.nodes.proofs.Trees.{waits-count}
 use Rattle.fair.specs.Faults.{faultSeen, FaultLow, FaultFound}
 use Rattle.fair.specs.declared.Fault as answered
-use Rattle.judging.specs.Checked.{fromElusive, fromCount, Passed, Tells}
+use Rattle.judging.specs.Checked.{fromApart, fromElusive, fromCount, Passed, Tells}
 use Rattle.judging.specs.declared.FairRead.{FairRead}
 
 -- a search for a fault, and the checks after it
@@ -41,34 +48,57 @@ module _ (verdict : ℕ → ℕ → Verdict) (after : Result Sheet) where
       let clean : f ≡ none = sym (h .seen) ∙ ap (faultSeen (s .root .line)) e in
       subst⁻¹ (λ (z : Result Sheet). Tells s z a) (ap (λ (o : Option Fault). refuseFault verdict o >>= λ u. after) clean) t
 
+-- the two sets together are all set-up stones
+pub all-stones : {b : Board} {s : Sheet} {u : SetUp} → HoldsSetUp b s u → (rows : List ℕ) → ((x : ℕ) → held b rows x ≡ (held b (u .own .rows) x || held b (u .opp .rows) x))
+    → Holds b rows (setUpCells (s .set-up))
+all-stones {s = s} h rows e =
+    record { same = λ x. e x ∙ ap₂ _||_ (h .stones .own-held .same x) (h .stones .opp-held .same x) ∙ sym (either-side (s .set-up) x) }
+
 -- a found node's number is below the most nodes
 pub fault-low : {s : Sheet} {f : Option Fault} {r : answered.Fault} {i c : ℕ} → FaultFound s f r → r ≡ answered.the-variants.At i c → i < mostNodes
 fault-low h e = subst FaultLow e (h .low)
 
 module _ {t : List ℕ} {b : Board} {s : Sheet} (h : HoldsSheet t b s) where
-  -- the first node stands on line 2
-  on-line : (i line : ℕ) → line ≡ i + 2 → line ≡ i + s .root .line
-  on-line i line l = omega (arith, l, h .well .first-line)
+  module _ (first : ℕ) (on : first ≡ s .root .line) where
+    on-line : (i line : ℕ) → line ≡ i + first → line ≡ i + s .root .line
+    on-line i line l = omega (arith, l, on)
 
-  -- 10
-  module _ (r : answered.Fault) (k : FaultFound s (firstNotApart s) r) where
-    pub not-apart-told : (i c line : ℕ) → r ≡ answered.the-variants.At i c → line ≡ i + 2 → fair s ≡ refused (NotApart line c)
-    unfolding fair
-    not-apart-told i c line e l = at-fault NotApart _ s (firstNotApart s) r i c line k e (on-line i line l)
+    -- 20
+    module _ (r : answered.Fault) (k : FaultFound s (firstOnSetUp s) r) where
+      pub not-free-told : (i c line : ℕ) → r ≡ answered.the-variants.At i c → line ≡ i + first → fair s ≡ refused (OnSetUp line c)
+      unfolding fair
+      not-free-told i c line e l = at-fault OnSetUp _ s (firstOnSetUp s) r i c line k e (on-line i line l)
 
-    pub apart-told : r ≡ answered.the-variants.Nothing → (a : FairRead) → Tells s (fromElusive s) a → Tells s (fair s) a
-    unfolding fair fromElusive fromCount
-    apart-told e a = no-fault NotApart (fromElusive s) s (firstNotApart s) r k e a
+      pub free-told : r ≡ answered.the-variants.Nothing → (a : FairRead) → Tells s (fromApart s) a → Tells s (fair s) a
+      unfolding fair fromApart fromElusive fromCount
+      free-told e a = no-fault OnSetUp (fromApart s) s (firstOnSetUp s) r k e a
 
-  -- 11
-  module _ (r : answered.Fault) (k : FaultFound s (firstNotElusive s) r) where
-    pub not-elusive-told : (i c line : ℕ) → r ≡ answered.the-variants.At i c → line ≡ i + 2 → fromElusive s ≡ refused (NotElusive line c)
-    unfolding fromElusive
-    not-elusive-told i c line e l = at-fault NotElusive _ s (firstNotElusive s) r i c line k e (on-line i line l)
+    -- 10
+    module _ (r : answered.Fault) (k : FaultFound s (firstNotApart s) r) where
+      pub not-apart-told : (i c line : ℕ) → r ≡ answered.the-variants.At i c → line ≡ i + first → fromApart s ≡ refused (NotApart line c)
+      unfolding fromApart
+      not-apart-told i c line e l = at-fault NotApart _ s (firstNotApart s) r i c line k e (on-line i line l)
 
-    pub elusive-told : r ≡ answered.the-variants.Nothing → (a : FairRead) → Tells s (fromCount s) a → Tells s (fromElusive s) a
-    unfolding fromElusive
-    elusive-told e a = no-fault NotElusive (fromCount s) s (firstNotElusive s) r k e a
+      pub apart-told : r ≡ answered.the-variants.Nothing → (a : FairRead) → Tells s (fromElusive s) a → Tells s (fromApart s) a
+      unfolding fromApart
+      apart-told e a = no-fault NotApart (fromElusive s) s (firstNotApart s) r k e a
+
+    -- 11
+    module _ (r : answered.Fault) (k : FaultFound s (firstNotElusive s) r) where
+      pub not-elusive-told : (i c line : ℕ) → r ≡ answered.the-variants.At i c → line ≡ i + first → fromElusive s ≡ refused (NotElusive line c)
+      unfolding fromElusive
+      not-elusive-told i c line e l = at-fault NotElusive _ s (firstNotElusive s) r i c line k e (on-line i line l)
+
+      pub elusive-told : r ≡ answered.the-variants.Nothing → (a : FairRead) → Tells s (fromCount s) a → Tells s (fromElusive s) a
+      unfolding fromElusive
+      elusive-told e a = no-fault NotElusive (fromCount s) s (firstNotElusive s) r k e a
+
+    -- where the first node stands on line 2 no stone was set up, so no move is on one
+    pub none-told : first ≡ 2 → (a : FairRead) → Tells s (fromApart s) a → Tells s (fair s) a
+    unfolding fair fromApart fromElusive fromCount refuseFault _>>=_
+    none-told e a t =
+        let none-set-up : length (s .set-up) ≡ 0 = omega (arith, on, h .well .first-line) in
+        subst⁻¹ (λ (z : Result Sheet). Tells s z a) (ap (λ (o : Option Fault). refuseFault OnSetUp o >>= λ u. fromApart s) (bare-free s (none-long (s .set-up) none-set-up))) t
 
   -- 12: the table has the count of outcomes, kept at one past the most
   sheet-count : countIn t 0 ≡ limited (outcomeCount s)

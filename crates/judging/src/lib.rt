@@ -1,16 +1,18 @@
 // judging: the checks of a sheet that the table holds, one function a check, and the verdict with its counts. It sees rules, cells,
 // nodes, fair and outcomes.
 ghost use mathlib.Core.Path.{_≡_};
-ghost use Prim.Native.Nat.{_+_, _<_};
-ghost use Rattle.rules.specs.Sizes.{mostNodes};
+ghost use Prim.Native.Nat.{_+_, _<_, _≤_};
+ghost use Rattle.rules.specs.Sizes.{mostNodes, mostBytes};
 ghost use Rattle.rules.specs.Tree.{Sheet, moveCount};
 ghost use Rattle.rules.specs.Entries.{fair, judged};
 ghost use Rattle.rules.specs.declared.Board as declared;
-ghost use Rattle.nodes.specs.Sheets.{HoldsSheet, SomeSheet};
-ghost use Rattle.judging.specs.Checked.{fromElusive, fromCount, passing, Tells};
+ghost use Rattle.nodes.specs.Sheets.{HoldsSheet, SomeSheet, HoldsWhole, SomeWhole};
+ghost use Rattle.judging.specs.Checked.{fromApart, fromElusive, fromCount, passing, Tells};
 use fair::Fault;
 use fair::not_apart;
 use fair::not_elusive;
+use fair::on_set_up;
+use nodes::SetUp;
 use nodes::count_at;
 use nodes::end_at;
 use nodes::is_move;
@@ -27,12 +29,12 @@ pub enum FairRead {
     Refused { verdict: Verdict },
 }
 
-// The line of a node; the first one stands on line 2.
-fn line_of(node: usize) -> u32
-    requires { ⌜ node < mostNodes ⌝ }
-    ensures { λ r. ⌜ r ≡ node + 2 ⌝ }
+// The line of a node, by the line of the first one.
+fn line_of(node: usize, first: u32) -> u32
+    requires { ⌜ (node < mostNodes) × (first ≤ mostBytes + 2) ⌝ }
+    ensures { λ r. ⌜ r ≡ node + first ⌝ }
 {
-    (node + 2) as u32
+    node as u32 + first
 }
 
 // 12: more than 65,536 outcomes.
@@ -52,12 +54,13 @@ fn few_on(table: &[u32], board: Board) -> FairRead
 }
 
 // 11: a wait that is not elusive; and then 12.
-fn elusive_on(table: &[u32], board: Board) -> FairRead
-    requires { ⌜ SomeSheet (now table) board ⌝ }
-    ensures { λ r. ⌜ ((s : Sheet) → HoldsSheet (now (table .entry)) board s → Tells s (fromElusive s) r) ⌝ }
+fn elusive_on(table: &[u32], board: Board, first: u32) -> FairRead
+    requires holds { ⌜ SomeSheet (now table) board ⌝ }
+    requires low { ⌜ first ≤ mostBytes + 2 ⌝ }
+    ensures { λ r. ⌜ ((s : Sheet) → HoldsSheet (now (table .entry)) board s → first ≡ s .root .line → Tells s (fromElusive s) r) ⌝ }
 {
     if let Fault::At { node, cell } = not_elusive(table, board) {
-        let line = line_of(node);
+        let line = line_of(node, first);
         return FairRead::Refused {
             verdict: Verdict::NotElusive { line, cell },
         };
@@ -65,18 +68,49 @@ fn elusive_on(table: &[u32], board: Board) -> FairRead
     few_on(table, board)
 }
 
-// Whether the sheet in the table is fair. 10: a move that is not apart; and then 11, 12.
-pub fn fair_sheet(table: &[u32], board: Board) -> FairRead
-    requires { ⌜ SomeSheet (now table) board ⌝ }
-    ensures { λ r. ⌜ ((s : Sheet) → HoldsSheet (now (table .entry)) board s → Tells s (fair s) r) ⌝ }
+// 10: a move that is not apart; and then 11, 12.
+fn apart_on(table: &[u32], board: Board, first: u32) -> FairRead
+    requires holds { ⌜ SomeSheet (now table) board ⌝ }
+    requires low { ⌜ first ≤ mostBytes + 2 ⌝ }
+    ensures { λ r. ⌜ ((s : Sheet) → HoldsSheet (now (table .entry)) board s → first ≡ s .root .line → Tells s (fromApart s) r) ⌝ }
 {
     if let Fault::At { node, cell } = not_apart(table, board) {
-        let line = line_of(node);
+        let line = line_of(node, first);
         return FairRead::Refused {
             verdict: Verdict::NotApart { line, cell },
         };
     }
-    elusive_on(table, board)
+    elusive_on(table, board, first)
+}
+
+// 20: a move on a set-up stone; and then 10, 11, 12.
+fn free_on(table: &[u32], board: Board, setup: SetUp) -> FairRead
+    requires { ⌜ SomeWhole (now table) board setup ⌝ }
+    ensures { λ r. ⌜ ((s : Sheet) → HoldsWhole (now (table .entry)) board setup s → Tells s (fair s) r) ⌝ }
+{
+    let own = setup.own;
+    let opp = setup.opp;
+    let first = setup.first;
+    let stones = own.union(opp);
+    if let Fault::At { node, cell } = on_set_up(table, board, stones) {
+        let line = line_of(node, first);
+        return FairRead::Refused {
+            verdict: Verdict::OnSetUp { line, cell },
+        };
+    }
+    apart_on(table, board, first)
+}
+
+// Whether the sheet in the table is fair: 20, 10, 11, 12. Where the first node stands on line 2 there is no stone for 20.
+pub fn fair_sheet(table: &[u32], board: Board, setup: SetUp) -> FairRead
+    requires { ⌜ SomeWhole (now table) board setup ⌝ }
+    ensures { λ r. ⌜ ((s : Sheet) → HoldsWhole (now (table .entry)) board setup s → Tells s (fair s) r) ⌝ }
+{
+    let first = setup.first;
+    if first == 2 {
+        return apart_on(table, board, first);
+    }
+    free_on(table, board, setup)
 }
 
 // How many moves the sheet in the table has.
@@ -96,16 +130,17 @@ fn count_moves(table: &[u32]) -> usize
     moves
 }
 
-// Whether the sheet in the table is fair and satisfying: 10, 11, 12, 13.
-pub fn accept_sheet(table: &[u32], board: Board, player: Player) -> FairRead
-    requires { ⌜ SomeSheet (now table) board ⌝ }
-    ensures { λ r. ⌜ ((s : Sheet) → HoldsSheet (now (table .entry)) board s → s .player ≡ player → Tells s (passing s) r) ⌝ }
+// Whether the sheet in the table is fair and satisfying: 20, 10, 11, 12, 13.
+pub fn accept_sheet(table: &[u32], board: Board, player: Player, setup: SetUp) -> FairRead
+    requires { ⌜ SomeWhole (now table) board setup ⌝ }
+    ensures { λ r. ⌜ ((s : Sheet) → HoldsWhole (now (table .entry)) board setup s → s .player ≡ player → Tells s (passing s) r) ⌝ }
 {
-    let read = fair_sheet(table, board);
+    let read = fair_sheet(table, board, setup);
     match read {
         FairRead::Refused { verdict } => FairRead::Refused { verdict },
         FairRead::Got { outcomes } => {
-            if let Unjoined::First { number } = first_unjoined(table, board, player, 0) {
+            let own = setup.own;
+            if let Unjoined::First { number } = first_unjoined(table, board, player, 0, own) {
                 return FairRead::Refused {
                     verdict: Verdict::NotJoined { index: number },
                 };
@@ -116,11 +151,11 @@ pub fn accept_sheet(table: &[u32], board: Board, player: Player) -> FairRead
 }
 
 // The verdict on the sheet in the table, with its counts.
-pub fn judge_table(table: &[u32], board: Board, player: Player) -> Verdict
-    requires { ⌜ SomeSheet (now table) board ⌝ }
-    ensures { λ r. ⌜ ((s : Sheet) → HoldsSheet (now (table .entry)) board s → s .player ≡ player → r ≡ judged (passing s)) ⌝ }
+pub fn judge_table(table: &[u32], board: Board, player: Player, setup: SetUp) -> Verdict
+    requires { ⌜ SomeWhole (now table) board setup ⌝ }
+    ensures { λ r. ⌜ ((s : Sheet) → HoldsWhole (now (table .entry)) board setup s → s .player ≡ player → r ≡ judged (passing s)) ⌝ }
 {
-    let accepted = accept_sheet(table, board, player);
+    let accepted = accept_sheet(table, board, player, setup);
     match accepted {
         FairRead::Refused { verdict } => verdict,
         FairRead::Got { outcomes } => {

@@ -1,5 +1,5 @@
--- A line is read in one way: two answers that the contract of `header_line`, or of `node_line`, allows are equal.
-use mathlib.Core.Path.{_≡_, refl, sym, ap, _∙_}
+-- A line is read in one way: two answers that the contract of `header_line`, of `set_up_line` or of `node_line` allows are equal.
+use mathlib.Core.Path.{_≡_, refl, sym, ap, subst, subst⁻¹, _∙_}
 use Prim.Native.Nat.{ℕ}
 use native.Mathlib.Omega.{arith}
 use mathlib.Core.Option.{Option, none, some}
@@ -8,13 +8,17 @@ use Rattle.rules.specs.Lines.{readerOf}
 use Rattle.rules.specs.Text.{Bytes, Reader}
 use Rattle.rules.specs.Lines as L
 use Rattle.rules.proofs.Steps.{none≢some, some-inj}
-use Rattle.lines.specs.Seen.{Reads, placeOf, lineSeen, headerSeen}
+use Rattle.lines.specs.Seen.{Reads, placeOf, lineSeen, sideOf, setUpSeen, headerSeen}
 use Rattle.rules.specs.declared.LineKind.{LineKind}
 use Rattle.lines.specs.declared.nodes.Cell.{Cell}
 use Rattle.lines.specs.declared.nodes.Cell.the-variants as Cell
 use Rattle.lines.specs.declared.nodes.Line.{Line}
 use Rattle.lines.specs.declared.nodes.LineRead.{LineRead}
 use Rattle.lines.specs.declared.nodes.LineRead.the-variants as LineRead
+use Rattle.lines.specs.declared.set_up.Side.{Side}
+use Rattle.lines.specs.declared.set_up.Side.the-variants as Side
+use Rattle.lines.specs.declared.set_up.SetUpRead.{SetUpRead}
+use Rattle.lines.specs.declared.set_up.SetUpRead.the-variants as SetUpRead
 use Rattle.lines.specs.declared.header.HeaderRead.{HeaderRead}
 use Rattle.lines.specs.declared.header.HeaderRead.the-variants as HeaderRead
 
@@ -29,6 +33,10 @@ one-read {A} {s} (some x) (some y) p q =
     let next : x .1 ≡ y .1 = omega (arith, rest, length-drop (x .1) s, length-drop (y .1) s, p .passed .inside, q .passed .inside) in
     ap (λ (a : A). some (a, x .1)) (ap (λ (z : A × Bytes). z .0) e) ∙ ap (λ (n : ℕ). some (y .0, n)) next
 
+abbrev IsOwn : L.Side → Type 0
+IsOwn L.own = Unit {0}
+IsOwn L.opp = ⊥
+
 pub one-header : {s : Bytes} (r r′ : HeaderRead) → Reads s 0 L.headerLine (headerSeen r) → Reads s 0 L.headerLine (headerSeen r′) → r ≡ r′
 one-header r r′ p q = seen r r′ (one-read (headerSeen r) (headerSeen r′) p q)
   where
@@ -42,6 +50,27 @@ one-header r r′ p q = seen r r′ (one-read (headerSeen r) (headerSeen r′) p
     seen (HeaderRead.Got b p i) HeaderRead.Nothing e = absurd (none≢some (sym e))
     seen HeaderRead.Nothing (HeaderRead.Got b p i) e = absurd (none≢some e)
     seen HeaderRead.Nothing HeaderRead.Nothing e = refl
+
+same-side : (o o′ : Side) → sideOf o ≡ sideOf o′ → o ≡ o′
+same-side Side.Own Side.Own e = refl
+same-side Side.Opp Side.Opp e = refl
+same-side Side.Own Side.Opp e = absurd (subst IsOwn e tt)
+same-side Side.Opp Side.Own e = absurd (subst⁻¹ IsOwn e tt)
+
+pub one-set-up : {s : Bytes} {at : ℕ} (r r′ : SetUpRead) → Reads s at L.setUpLine (setUpSeen r) → Reads s at L.setUpLine (setUpSeen r′) → r ≡ r′
+one-set-up r r′ p q = seen r r′ (one-read (setUpSeen r) (setUpSeen r′) p q)
+  where
+    seen : (r r′ : SetUpRead) → setUpSeen r ≡ setUpSeen r′ → r ≡ r′
+    seen (SetUpRead.Got o c r i) (SetUpRead.Got o′ c′ r′ i′) e =
+        let f = some-inj e in
+        let side = same-side o o′ (ap (λ (z : L.SetUpLine × ℕ). z .0 .side) f) in
+        let column = ap (λ (z : L.SetUpLine × ℕ). z .0 .place .column) f in
+        let row = ap (λ (z : L.SetUpLine × ℕ). z .0 .place .row) f in
+        let next = ap (λ (z : L.SetUpLine × ℕ). z .1) f in
+        cc
+    seen (SetUpRead.Got o c r i) SetUpRead.Nothing e = absurd (none≢some (sym e))
+    seen SetUpRead.Nothing (SetUpRead.Got o c r i) e = absurd (none≢some e)
+    seen SetUpRead.Nothing SetUpRead.Nothing e = refl
 
 same-cell : (c d : Cell) → placeOf c ≡ placeOf d → c ≡ d
 same-cell (Cell.At a b) (Cell.At c d) e =

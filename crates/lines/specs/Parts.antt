@@ -7,6 +7,10 @@ use Rattle.rules.specs.Text.{Reader, _>>=_, _>>_, _orElse_, give, byte, word, t
 use Rattle.rules.specs.Lines.{Place, Line, place, moveLine, dashLine}
 use Rattle.rules.specs.declared.Board.{Board}
 
+-- a word of three letters
+unfoldable pub three : (first second third : ℕ) → Reader (Unit {0})
+three a b c = byte a >> (byte b >> (byte c >> give tt))
+
 -- a line's first letter and the tab after it
 unfoldable pub begun : ℕ → Reader (Unit {0})
 begun b = byte b >> tab

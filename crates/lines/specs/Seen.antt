@@ -11,6 +11,8 @@ use Rattle.lines.specs.declared.numbers.Next.{Next}
 use Rattle.lines.specs.declared.numbers.Next.the-variants as Next
 use Rattle.lines.specs.declared.numbers.NumberRead.{NumberRead}
 use Rattle.lines.specs.declared.numbers.NumberRead.the-variants as NumberRead
+use Rattle.lines.specs.declared.nodes.PlaceRead.{PlaceRead}
+use Rattle.lines.specs.declared.nodes.PlaceRead.the-variants as PlaceRead
 use Rattle.lines.specs.declared.nodes.Cell.{Cell}
 use Rattle.lines.specs.declared.nodes.Cell.the-variants as Cell
 use Rattle.lines.specs.declared.nodes.CellRead.{CellRead}
@@ -18,6 +20,12 @@ use Rattle.lines.specs.declared.nodes.CellRead.the-variants as CellRead
 use Rattle.lines.specs.declared.nodes.Line.{Line}
 use Rattle.lines.specs.declared.nodes.LineRead.{LineRead}
 use Rattle.lines.specs.declared.nodes.LineRead.the-variants as LineRead
+use Rattle.lines.specs.declared.set_up.Side.{Side}
+use Rattle.lines.specs.declared.set_up.Side.the-variants as Side
+use Rattle.lines.specs.declared.set_up.SideRead.{SideRead}
+use Rattle.lines.specs.declared.set_up.SideRead.the-variants as SideRead
+use Rattle.lines.specs.declared.set_up.SetUpRead.{SetUpRead}
+use Rattle.lines.specs.declared.set_up.SetUpRead.the-variants as SetUpRead
 use Rattle.lines.specs.declared.header.BoardRead.{BoardRead}
 use Rattle.lines.specs.declared.header.BoardRead.the-variants as BoardRead
 use Rattle.lines.specs.declared.header.PlayerRead.{PlayerRead}
@@ -52,6 +60,10 @@ abbrev pub numberSeen : NumberRead → Option (ℕ × ℕ)
 numberSeen (NumberRead.Got n i) = some (n, i)
 numberSeen NumberRead.Nothing = none
 
+abbrev pub placeSeen : PlaceRead → Option (L.Place × ℕ)
+placeSeen (PlaceRead.Got c r i) = some (record { column = c; row = r }, i)
+placeSeen PlaceRead.Nothing = none
+
 -- the cell that a line names, if it names one
 abbrev pub placeOf : Cell → Option L.Place
 placeOf (Cell.At c r) = some (record { column = c; row = r })
@@ -67,6 +79,19 @@ said l = record { place = placeOf (l .cell); under = l .under }
 abbrev pub lineSeen : LineRead → Option (L.Line × ℕ)
 lineSeen (LineRead.Got l i) = some (said l, i)
 lineSeen LineRead.Nothing = none
+
+-- whose a set-up stone is
+abbrev pub sideOf : Side → L.Side
+sideOf Side.Own = L.own
+sideOf Side.Opp = L.opp
+
+abbrev pub sideSeen : SideRead → Option (L.Side × ℕ)
+sideSeen (SideRead.Got o i) = some (sideOf o, i)
+sideSeen SideRead.Nothing = none
+
+abbrev pub setUpSeen : SetUpRead → Option (L.SetUpLine × ℕ)
+setUpSeen (SetUpRead.Got o c r i) = some (record { side = sideOf o; place = record { column = c; row = r } }, i)
+setUpSeen SetUpRead.Nothing = none
 
 abbrev pub boardSeen : BoardRead → Option (Board × ℕ)
 boardSeen (BoardRead.Got b i) = some (b, i)

@@ -1,30 +1,17 @@
 // Line 1: the board and the player.
-ghost use Rattle.rules.specs.Text.{word};
 ghost use Rattle.rules.specs.Lines as L;
 ghost use Rattle.lines.specs.Parts as parts;
-ghost use Rattle.lines.specs.Seen.{Reads, nextSeen, numberSeen, boardSeen, playerSeen, headerSeen};
+ghost use Rattle.lines.specs.Seen.{Reads, numberSeen, boardSeen, playerSeen, headerSeen};
 use crate::numbers::Next;
 use crate::numbers::NumberRead;
 use crate::numbers::byte_at;
 use crate::numbers::number_in;
+use crate::numbers::word_at;
 use rules::Board;
 use rules::Player;
 
 // A board has 1 to 19 columns and 1 to 19 rows.
 const LARGEST: u32 = 19;
-
-// The word that a sheet begins with.
-fn hex_at(s: &[u8], at: usize) -> Next
-    ensures { λ r. ⌜ Reads (now (s .entry)) at (word "hex") (nextSeen r) ⌝ }
-{
-    let Next::At(second) = byte_at(s, at, b'h') else {
-        return Next::Nothing;
-    };
-    let Next::At(third) = byte_at(s, second, b'e') else {
-        return Next::Nothing;
-    };
-    byte_at(s, third, b'x')
-}
 
 // A tab, and the columns or the rows of a board.
 fn size_at(s: &[u8], at: usize) -> NumberRead
@@ -117,7 +104,7 @@ pub enum HeaderRead {
 pub fn header_line(s: &[u8]) -> HeaderRead
     ensures { λ r. ⌜ Reads (now (s .entry)) 0 L.headerLine (headerSeen r) ⌝ }
 {
-    let Next::At(sizes) = hex_at(s, 0) else {
+    let Next::At(sizes) = word_at(s, 0, b'h', b'e', b'x') else {
         return HeaderRead::Nothing;
     };
     let BoardRead::Got { board, next: tab } = board_at(s, sizes) else {

@@ -3,7 +3,7 @@ ghost use Rattle.rules.specs.Sizes.{mostUnder};
 ghost use Rattle.rules.specs.Text.{numberIn};
 ghost use Rattle.rules.specs.Lines as L;
 ghost use Rattle.lines.specs.Parts as parts;
-ghost use Rattle.lines.specs.Seen.{Reads, nextSeen, numberSeen, cellSeen, lineSeen};
+ghost use Rattle.lines.specs.Seen.{Reads, nextSeen, numberSeen, placeSeen, cellSeen, lineSeen};
 use crate::numbers::Next;
 use crate::numbers::NumberRead;
 use crate::numbers::byte_at;
@@ -35,6 +35,29 @@ fn letter_at(s: &[u8], at: usize) -> NumberRead
     }
 }
 
+// A cell's column and row, and where the text goes on after it.
+pub enum PlaceRead {
+    Got { column: u32, row: u32, next: usize },
+    Nothing,
+}
+
+// A cell is a lower-case letter and a number 1 to 99.
+pub fn place_at(s: &[u8], at: usize) -> PlaceRead
+    ensures { λ r. ⌜ Reads (now (s .entry)) at L.place (placeSeen r) ⌝ }
+{
+    let NumberRead::Got {
+        value: column,
+        next: middle,
+    } = letter_at(s, at)
+    else {
+        return PlaceRead::Nothing;
+    };
+    let NumberRead::Got { value: row, next } = number_in(s, middle, 1, HIGHEST_ROW) else {
+        return PlaceRead::Nothing;
+    };
+    PlaceRead::Got { column, row, next }
+}
+
 // The cell that a line names by its column and row, if it names one.
 pub enum Cell {
     At { column: u32, row: u32 },
@@ -47,32 +70,15 @@ enum CellRead {
     Nothing,
 }
 
-// A cell is a lower-case letter and a number 1 to 99.
-fn place_at(s: &[u8], at: usize) -> CellRead
-    ensures { λ r. ⌜ Reads (now (s .entry)) at parts.aCell (cellSeen r) ⌝ }
-{
-    let NumberRead::Got {
-        value: column,
-        next: middle,
-    } = letter_at(s, at)
-    else {
-        return CellRead::Nothing;
-    };
-    let NumberRead::Got { value: row, next } = number_in(s, middle, 1, HIGHEST_ROW) else {
-        return CellRead::Nothing;
-    };
-    CellRead::Got {
-        cell: Cell::At { column, row },
-        next,
-    }
-}
-
 // A cell; or `-`, where that may stand instead.
 fn name_at(s: &[u8], at: usize, dash: bool) -> CellRead
     ensures { λ r. ⌜ Reads (now (s .entry)) at (parts.name dash) (cellSeen r) ⌝ }
 {
-    if let CellRead::Got { cell, next } = place_at(s, at) {
-        return CellRead::Got { cell, next };
+    if let PlaceRead::Got { column, row, next } = place_at(s, at) {
+        return CellRead::Got {
+            cell: Cell::At { column, row },
+            next,
+        };
     }
     if !dash {
         return CellRead::Nothing;

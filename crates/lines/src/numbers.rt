@@ -1,8 +1,9 @@
-// Bytes and numbers at a place of a text.
+// Bytes, words and numbers at a place of a text.
 ghost use mathlib.Core.Path.{_≡_};
 ghost use Prim.Native.Nat.{_+_, _*_, _-_, _<_, _≤_, min};
 ghost use lib.ListN.{length, drop};
 ghost use Rattle.rules.specs.Text.{byte, digits, wellSpelled, numberIn};
+ghost use Rattle.lines.specs.Parts as parts;
 ghost use Rattle.lines.specs.Run.{ceiling, runAt};
 ghost use Rattle.lines.specs.Seen.{Reads, nextSeen, numberSeen};
 
@@ -26,6 +27,19 @@ pub fn byte_at(s: &[u8], at: usize, b: u8) -> Next
         return Next::At(at + 1);
     }
     Next::Nothing
+}
+
+// A word of three letters.
+pub fn word_at(s: &[u8], at: usize, first: u8, second: u8, third: u8) -> Next
+    ensures { λ r. ⌜ Reads (now (s .entry)) at (parts.three first second third) (nextSeen r) ⌝ }
+{
+    let Next::At(middle) = byte_at(s, at, first) else {
+        return Next::Nothing;
+    };
+    let Next::At(last) = byte_at(s, middle, second) else {
+        return Next::Nothing;
+    };
+    byte_at(s, last, third)
 }
 
 // A run of digits: what it spells, or the ceiling if that is less, and the place after it.

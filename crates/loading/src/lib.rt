@@ -1,12 +1,14 @@
-// loading: a sheet's text is read into the lent table, and the table is cleared. It sees rules, cells, nodes, lines and reading.
+// loading: a sheet's text is read into the lent table and two sets of stones, and the table is cleared. It sees rules, cells, nodes, lines and reading.
 ghost use mathlib.Core.Path.{_≡_};
 ghost use lib.ListN.{length, replicate};
 ghost use Rattle.rules.specs.Sizes.{leastWorkspace};
-ghost use Rattle.loading.specs.Held.{SheetKept};
+ghost use Rattle.loading.specs.Held.{Unloaded, SheetKept};
+use cells::Cells;
 use lines::HeaderRead;
 use lines::header_line;
+use nodes::SetUp;
 use nodes::weigh_move;
-use reading::BodyRead;
+use reading::TreeRead;
 use reading::read_body;
 use rules::Board;
 use rules::Player;
@@ -30,28 +32,52 @@ pub enum SheetRead {
     Refused { verdict: Verdict },
 }
 
-// Reads a sheet into the table: 2 to 9.
-pub fn read_sheet(sheet: &[u8], table: &mut [u32]) -> SheetRead
+// That, and what is set up before its tree. (No stones and line 0 where the sheet is refused.)
+pub struct Loaded {
+    pub read: SheetRead,
+    pub setup: SetUp,
+}
+
+// A sheet that is refused.
+fn unloaded(verdict: Verdict) -> Loaded
+    ensures { λ r. ⌜ Unloaded verdict r ⌝ }
+{
+    let setup = SetUp {
+        own: Cells::empty(),
+        opp: Cells::empty(),
+        first: 0,
+    };
+    Loaded {
+        read: SheetRead::Refused { verdict },
+        setup,
+    }
+}
+
+// Reads a sheet into the table: 2 to 9, and 19.
+pub fn read_sheet(sheet: &[u8], table: &mut [u32]) -> Loaded
     requires { ⌜ length (now table) ≡ leastWorkspace ⌝ }
     ensures { λ r. ⌜ SheetKept (now (sheet .entry)) (now (table .entry)) r (now (table .exit)) ⌝ }
 {
     if 32768 < sheet.len() {
-        return SheetRead::Refused {
-            verdict: Verdict::LongText,
-        };
+        return unloaded(Verdict::LongText);
     }
     let HeaderRead::Got { board, player, end } = header_line(sheet) else {
-        return SheetRead::Refused {
-            verdict: Verdict::BadHeader,
-        };
+        return unloaded(Verdict::BadHeader);
     };
     let body = &sheet[end..];
     let read = read_body(body, table, board);
-    match read {
-        BodyRead::Refused { verdict } => SheetRead::Refused { verdict },
-        BodyRead::Got => {
+    let stones = read.stones;
+    let own = stones.own;
+    let opp = stones.opp;
+    let tree = read.tree;
+    match tree {
+        TreeRead::Refused { verdict } => unloaded(verdict),
+        TreeRead::Got { first } => {
             weigh_move(table, 0);
-            SheetRead::Got { board, player }
+            Loaded {
+                read: SheetRead::Got { board, player },
+                setup: SetUp { own, opp, first },
+            }
         }
     }
 }

@@ -1,12 +1,15 @@
--- The table holds a sheet: its tree stands there from node 0 on, and is weighed.
+-- The table holds a sheet: its tree stands there from node 0 on, and is weighed; and what is set up before the tree is the sheet's.
 use mathlib.Core.Path.{_≡_}
 use mathlib.Core.List.{List}
-use Prim.Native.Nat.{ℕ}
+use Prim.Native.Nat.{ℕ, _+_, _≤_}
 use lib.ListN.{length}
-use Rattle.rules.specs.Sizes.{leastWorkspace}
-use Rattle.rules.specs.Tree.{Sheet}
+use Rattle.rules.specs.Sizes.{mostBytes, leastWorkspace}
+use Rattle.rules.specs.Tree.{Stone, Sheet, ownCells, oppCells}
 use Rattle.rules.specs.Plain.{WellRead}
 use Rattle.rules.specs.declared.Board.{Board}
+use Rattle.cells.specs.Cells.{Holds}
+use Rattle.cells.specs.declared.Cells.{Cells}
+use Rattle.nodes.specs.declared.SetUp.{SetUp}
 use Rattle.nodes.specs.Nodes.{aMove, nodesOfWaits}
 use Rattle.nodes.specs.Table.{WeighedRow, At}
 
@@ -21,3 +24,23 @@ pub record HoldsSheet (t : List ℕ) (b : Board) (s : Sheet) : Type 0 where
 pub record SomeSheet (t : List ℕ) (b : Board) : Type 0 where
   pub sheet : Sheet
   pub held : HoldsSheet t b sheet
+
+-- two sets are the player's own set-up stones and the opponent's
+pub record HeldStones (b : Board) (cs : List Stone) (own opp : Cells) : Type 0 where
+  pub own-held : Holds b (own .rows) (ownCells cs)
+  pub opp-held : Holds b (opp .rows) (oppCells cs)
+
+-- what is set up is the sheet's: its stones, and the line of its first node, no further on than a text is long
+pub record HoldsSetUp (b : Board) (s : Sheet) (u : SetUp) : Type 0 where
+  pub stones : HeldStones b (s .set-up) (u .own) (u .opp)
+  pub first-is : u .first ≡ s .root .line
+  pub low : u .first ≤ mostBytes + 2
+
+-- both
+pub record HoldsWhole (t : List ℕ) (b : Board) (u : SetUp) (s : Sheet) : Type 0 where
+  pub tree : HoldsSheet t b s
+  pub set-up : HoldsSetUp b s u
+
+pub record SomeWhole (t : List ℕ) (b : Board) (u : SetUp) : Type 0 where
+  pub sheet : Sheet
+  pub whole : HoldsWhole t b u sheet

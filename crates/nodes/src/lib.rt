@@ -22,6 +22,13 @@ pub struct Weight {
     pub next: usize,
 }
 
+// What is set up before the tree: the player's own stones and the opponent's, and the line of the first node.
+pub struct SetUp {
+    pub own: Cells,
+    pub opp: Cells,
+    pub first: u32,
+}
+
 // A number of the table as a place or a count.
 fn wide(x: u32) -> usize
     ensures { λ r. ⌜ r ≡ x ⌝ }

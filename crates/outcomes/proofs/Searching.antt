@@ -20,13 +20,13 @@ use Rattle.rules.specs.Entries.{_>>=_, refuseUnjoined}
 use Rattle.rules.proofs.Lists.{among-append}
 use Rattle.rules.proofs.Joining.{joined-same}
 use Rattle.rules.proofs.Places.{cell-range}
-use Rattle.cells.specs.Cells.{held}
+use Rattle.cells.specs.Cells.{held, Holds}
 use Rattle.nodes.specs.Nodes.{aMove, size, nodesOfWaits, nodesOfMoves}
 use Rattle.nodes.specs.Table.{cellIn, endIn, countIn, Each}
 use Rattle.nodes.proofs.Trees.{moves-count, move-first}
 use Rattle.outcomes.specs.declared.Unjoined.{Unjoined}
 use Rattle.outcomes.specs.declared.Unjoined.the-variants.{First, Nothing}
-use Rattle.outcomes.specs.Searching.{Seated, Ahead, no-more, WaitNext, Going, SomeGoing, Holds, goingOn, refusal, SearchFound, Countable, UnjoinedFound}
+use Rattle.outcomes.specs.Searching.{Seated, Ahead, no-more, WaitNext, Going, SomeGoing, goingOn, refusal, SearchFound, Countable, UnjoinedFound}
 use Rattle.outcomes.proofs.Picking.{wait-weight, move-weight}
 use Rattle.outcomes.proofs.GoingOn.{count-then, first-choice, going-count, search-then, all-join, none-goes-on, no-choice}
 use Rattle.outcomes.proofs.Ahead.{ahead-most, ahead-some, first-ahead, none-ahead, waits-before, moves-before, then-none}
@@ -231,9 +231,9 @@ whole-going {b} {t} {i} {c} {end} {many} {ws} m e q =
       few = omega (arith, move-weight ws (m .at .here .weight) (m .few), m .few);
     }
 
-pub whole-found : {b : Board} (p : Player) {t : List ℕ} {i end many : ℕ} (r : Unjoined) (empty out : List ℕ) (cell : ℕ) → cell ≡ cellIn t i → end ≡ endIn t i → many ≡ countIn t i
-    → ((x : ℕ) → held b empty x ≡ false) → ((x : ℕ) → held b out x ≡ (held b empty x || among (stone cell) x)) → SearchFound b p t end (i + 1) many 0 out r → UnjoinedFound b p t i r
-whole-found p r empty out cell y e q z o f c ws m =
+pub whole-found : {b : Board} (p : Player) {t : List ℕ} {i end many : ℕ} (r : Unjoined) (rows out : List ℕ) (cell : ℕ) → cell ≡ cellIn t i → end ≡ endIn t i → many ≡ countIn t i
+    → ((x : ℕ) → held b out x ≡ (held b rows x || among (stone cell) x)) → SearchFound b p t end (i + 1) many 0 out r → UnjoinedFound b p t i rows r
+whole-found p r rows out cell y e q o f c ws xs m h =
     let same : cell ≡ c = y ∙ m .at .here .weight .row .cell in
-    f ws (stone c) (whole-going m e q)
-    (record { same = λ x. o x ∙ ap (λ (v : Bool). v || among (stone cell) x) (z x) ∙ ap (λ (d : ℕ). among (stone d) x) same })
+    f ws (xs ++ stone c) (whole-going m e q)
+    (record { same = λ x. o x ∙ ap (λ (v : Bool). v || among (stone cell) x) (h .same x) ∙ ap (λ (d : ℕ). among xs x || among (stone d) x) same ∙ sym (among-append x xs (stone c)) })

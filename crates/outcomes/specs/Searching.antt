@@ -7,13 +7,12 @@ use Rattle.rules.specs.declared.Board.{Board}
 use Rattle.rules.specs.declared.Player.{Player}
 use Rattle.rules.specs.declared.Verdict.the-variants.{NotJoined}
 use Rattle.rules.specs.Sizes.{mostOutcomes}
-use Rattle.rules.specs.Words.{among}
 use Rattle.rules.specs.Board.{isCell}
 use Rattle.rules.specs.Tree.{Waits, noWaits, wait, Moves, stone}
 use Rattle.rules.specs.Outcomes.{countOfWaits, outcomesOfWaits}
 use Rattle.rules.specs.Reading.{Result, refused, got}
 use Rattle.rules.specs.Entries.{refuseUnjoined}
-use Rattle.cells.specs.Cells.{held}
+use Rattle.cells.specs.Cells.{Holds}
 use Rattle.nodes.specs.Nodes.{Nodes, Kind, other, aWait, aMove, size, countOf, nodesOfWaits, nodesOfMoves}
 use Rattle.nodes.specs.Table.{cellIn, WeighedRow, WeighedOn, Each, At}
 use Rattle.outcomes.specs.declared.Unjoined.{Unjoined}
@@ -55,10 +54,6 @@ pub record Going (b : Board) (t : List ℕ) (end i many number : ℕ) (ws : Wait
 abbrev pub SomeGoing : Board → List ℕ → (end i many number : ℕ) → Type 0
 SomeGoing b t end i many number = (ws : Waits) × Going b t end i many number ws
 
--- the set is that of these cells
-pub record Holds (b : Board) (rows xs : List ℕ) : Type 0 where
-  pub same : (x : ℕ) → held b rows x ≡ among xs x
-
 -- the outcomes that go on from the cells xs by those of the waits
 abbrev pub goingOn : List ℕ → List (List ℕ) → List (List ℕ)
 goingOn xs os = map (λ o. xs ++ o) os
@@ -83,10 +78,11 @@ pub record Countable (b : Board) (t : List ℕ) (i c : ℕ) (ws : Waits) : Type 
 abbrev pub SomeCountable : Board → List ℕ → ℕ → Type 0
 SomeCountable b t i = (c : ℕ) × (ws : Waits) × Countable b t i c ws
 
--- the outcomes of the move
-abbrev pub outcomesOfMove : ℕ → Waits → List (List ℕ)
-outcomesOfMove c ws = goingOn (stone c) (outcomesOfWaits ws)
+-- the outcomes of the move, each with the cells xs
+abbrev pub outcomesOfMove : List ℕ → ℕ → Waits → List (List ℕ)
+outcomesOfMove xs c ws = goingOn (xs ++ stone c) (outcomesOfWaits ws)
 
--- the answer is right whatever move stands there
-abbrev pub UnjoinedFound : Board → Player → List ℕ → ℕ → Unjoined → Type 0
-UnjoinedFound b p t i r = (c : ℕ) (ws : Waits) → Countable b t i c ws → refuseUnjoined b p 0 (outcomesOfMove c ws) ≡ refusal r
+-- the answer is right whatever move stands there, and whatever cells the set has
+abbrev pub UnjoinedFound : Board → Player → List ℕ → ℕ → List ℕ → Unjoined → Type 0
+UnjoinedFound b p t i rows r =
+    (c : ℕ) (ws : Waits) (xs : List ℕ) → Countable b t i c ws → Holds b rows xs → refuseUnjoined b p 0 (outcomesOfMove xs c ws) ≡ refusal r

@@ -117,15 +117,15 @@ fn first_from(
     Unjoined::Nothing
 }
 
-// The first outcome of the move at node i that does not join for the player.
-pub fn first_unjoined(t: &[u32], board: Board, player: Player, i: usize) -> Unjoined
+// The first outcome of the move at node i that does not join for the player with the cells of a set.
+pub fn first_unjoined(t: &[u32], board: Board, player: Player, i: usize, set: Cells) -> Unjoined
     requires fits { ⌜ Fits board ⌝ }
     requires stands { ⌜ SomeCountable board (now t) i ⌝ }
-    ensures { λ r. ⌜ UnjoinedFound board player (now (t .entry)) i r ⌝ }
+    ensures { λ r. ⌜ UnjoinedFound board player (now (t .entry)) i (set .rows) r ⌝ }
 {
     let cell = cell_at(t, i);
-    let set = with_stone(Cells::empty(), board, cell);
+    let with = with_stone(set, board, cell);
     let end = end_at(t, i);
     let many = count_at(t, i);
-    first_from(t, board, player, end, i + 1, many, 0, set)
+    first_from(t, board, player, end, i + 1, many, 0, with)
 }

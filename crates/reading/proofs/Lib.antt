@@ -1,4 +1,5 @@
 pub mod OnBoard
+pub mod SettingUp
 pub mod Line
 pub mod Storing
 pub mod Standing

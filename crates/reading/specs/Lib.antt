@@ -1,4 +1,5 @@
 pub mod Numbered
 pub mod Spots
+pub mod SetUp
 pub mod Storing
 pub mod Kept

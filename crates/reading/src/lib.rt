@@ -1,18 +1,32 @@
 // reading: from the body of a sheet, the text after its header, to the node table. It holds the number of the cell that a line
-// names, the reading of node lines and of nodes with all under them. It sees rules, cells, nodes and lines.
+// names, the reading of set-up lines into two sets of stones, of node lines, and of nodes with all under them. It sees rules, cells,
+// nodes and lines.
 ghost use mathlib.Core.Path.{_≡_};
-ghost use Prim.Native.Nat.{_≤_};
+ghost use mathlib.Core.List.{List, [], _∷_, _++_};
+ghost use Prim.Native.Nat.{_+_, _≤_};
+ghost use lib.Dec.{T};
 ghost use lib.ListN.{length};
+ghost use Rattle.rules.specs.Board.{isCell};
 ghost use Rattle.rules.specs.Lines.{kindUnder};
 ghost use Rattle.rules.specs.Sizes.{leastWorkspace};
-ghost use Rattle.lines.specs.Seen.{placeOf};
+ghost use Rattle.rules.specs.Tree.{Stone, setUpCells};
+ghost use Rattle.rules.specs.Words.{among};
+ghost use Rattle.rules.specs.declared.Board as declared;
+ghost use Rattle.cells.specs.Cells.{Fits};
+ghost use Rattle.lines.specs.Seen.{placeOf, sideOf};
+ghost use Rattle.nodes.specs.Sheets.{HeldStones};
 ghost use Rattle.reading.specs.Numbered.{numbered};
 ghost use Rattle.reading.specs.Spots.{spotOf, Ready};
+ghost use Rattle.reading.specs.SetUp.{StepKept, SetUpReply};
 ghost use Rattle.reading.specs.Storing.{storeAll, storeNode};
-ghost use Rattle.reading.specs.Kept.{SaidKept, ReadKept, BodyReady, BodyKept};
+ghost use Rattle.reading.specs.Kept.{SaidKept, ReadKept, TreeReady, TreeKept, Unread, BodyReady, BodyKept};
+use cells::Cells;
 use lines::Cell;
 use lines::LineRead;
+use lines::SetUpRead;
+use lines::Side;
 use lines::node_line;
+use lines::set_up_line;
 use nodes::set_node;
 use rules::Board;
 use rules::LineKind;
@@ -64,6 +78,148 @@ struct Spot {
     at: usize,
     line: usize,
     nodes: usize,
+}
+
+// The set-up stones: the player's own, and the opponent's.
+pub struct Stones {
+    pub own: Cells,
+    pub opp: Cells,
+}
+
+impl Stones {
+    // No stones.
+    fn empty() -> Stones
+        ensures { λ r. ⌜ ((b : declared.Board) → HeldStones b [] (r .own) (r .opp)) ⌝ }
+    {
+        Stones {
+            own: Cells::empty(),
+            opp: Cells::empty(),
+        }
+    }
+
+    // Whether a stone is on the cell.
+    fn on(self, board: Board, cell: usize) -> bool
+        requires { ⌜ Fits board ⌝ }
+        ensures { λ r. ⌜ ((cs : List Stone) → HeldStones board cs (self .own) (self .opp) → r ≡ among (setUpCells cs) cell) ⌝ }
+    {
+        let own = self.own;
+        let opp = self.opp;
+        own.union(opp).has(board, cell)
+    }
+
+    // One stone more.
+    fn put(self, board: Board, side: Side, cell: usize) -> Stones
+        requires { ⌜ (Fits board) × T (isCell board cell) ⌝ }
+        ensures { λ r. ⌜ ((cs : List Stone) → HeldStones board cs (self .own) (self .opp) → HeldStones board (cs ++ record { side = sideOf side; cell = cell } ∷ []) (r .own) (r .opp)) ⌝ }
+    {
+        let own = self.own;
+        let opp = self.opp;
+        match side {
+            Side::Own => Stones {
+                own: own.with(board, cell),
+                opp,
+            },
+            Side::Opp => Stones {
+                own,
+                opp: opp.with(board, cell),
+            },
+        }
+    }
+}
+
+// What stands at a spot: a set-up line, with the spot after it; none; or the refusal.
+enum Step {
+    Got { after: Spot },
+    Ended,
+    Refused { verdict: Verdict },
+}
+
+// That, and the stones with the line's stone.
+struct Stepped {
+    step: Step,
+    stones: Stones,
+}
+
+// The set-up line at a spot. In this order: 5, 19. A malformed one is none, so that it is refused with 4 in the first node's place.
+fn stone_here(body: &[u8], board: Board, stones: Stones, spot: Spot) -> Stepped
+    requires { ⌜ Ready board (now body) spot ⌝ }
+    ensures { λ r. ⌜ ((cs : List Stone) → HeldStones board cs (stones .own) (stones .opp) → spot .line ≡ length cs + 2 → StepKept board (now (body .entry)) spot cs (r .step) (r .stones)) ⌝ }
+{
+    let at = spot.at;
+    let line = spot.line as u32;
+    let SetUpRead::Got {
+        side,
+        column,
+        row,
+        next,
+    } = set_up_line(body, at)
+    else {
+        let step = Step::Ended;
+        return Stepped { step, stones };
+    };
+    let Numbered::On(number) = number_at(board, column, row) else {
+        let verdict = Verdict::OffBoard { line };
+        let step = Step::Refused { verdict };
+        return Stepped { step, stones };
+    };
+    let cell = number as usize;
+    if stones.on(board, cell) {
+        let verdict = Verdict::SetUpTwice { line, cell: number };
+        let step = Step::Refused { verdict };
+        return Stepped { step, stones };
+    }
+    let after = Spot {
+        at: next,
+        line: spot.line + 1,
+        nodes: spot.nodes,
+    };
+    Stepped {
+        step: Step::Got { after },
+        stones: stones.put(board, side, cell),
+    }
+}
+
+// What was read: the spot after it, or the refusal.
+enum Read {
+    Got { after: Spot },
+    Refused { verdict: Verdict },
+}
+
+// The reading of the set-up lines, and their stones.
+struct StonesRead {
+    read: Read,
+    stones: Stones,
+}
+
+// All set-up lines of a body.
+fn read_set_up(body: &[u8], board: Board) -> StonesRead
+    requires { ⌜ Ready board (now body) (record { at = 0; line = 2; nodes = 0 }) ⌝ }
+    ensures { λ r. ⌜ SetUpReply board (now (body .entry)) (r .read) (r .stones) ⌝ }
+{
+    let mut stones = Stones::empty();
+    let mut here = Spot {
+        at: 0,
+        line: 2,
+        nodes: 0,
+    };
+    loop {
+        let one = stone_here(body, board, stones, here);
+        stones = one.stones;
+        let step = one.step;
+        match step {
+            Step::Refused { verdict } => {
+                let read = Read::Refused { verdict };
+                return StonesRead { read, stones };
+            }
+            Step::Ended => {
+                let read = Read::Got { after: here };
+                return StonesRead { read, stones };
+            }
+            Step::Got { after } => {
+                here = after;
+            }
+        }
+    }
 }
 
 // What a node's line says: its cell's number, the number of nodes under it, and where the next line begins; or the refusal.
@@ -121,12 +277,6 @@ fn kind_below(kind: LineKind) -> LineKind
         LineKind::Move => LineKind::Wait,
         LineKind::Wait => LineKind::Move,
     }
-}
-
-// What was read: the spot after it, or the refusal.
-enum Read {
-    Got { after: Spot },
-    Refused { verdict: Verdict },
 }
 
 // A node of the kind with all under it, stored in the table, where so many levels are left, its own among them.
@@ -197,33 +347,68 @@ fn read_all(
     Read::Got { after: here }
 }
 
-// The reading of a body: its tree is in the table, or it is refused.
-pub enum BodyRead {
-    Got,
+// The reading of a tree: it is in the table, and its first node has this line; or it is refused.
+pub enum TreeRead {
+    Got { first: u32 },
     Refused { verdict: Verdict },
 }
 
-// The body after the header line, read as a text that begins where the header ended: one tree and no text after it.
+// From a spot on: one tree and no text after it.
+fn read_tree(body: &[u8], table: &mut [u32], board: Board, start: Spot) -> TreeRead
+    requires { ⌜ TreeReady board (now body) start (now table) ⌝ }
+    ensures { λ r. ⌜ TreeKept board (now (body .entry)) start (now (table .entry)) r (now (table .exit)) ⌝ }
+{
+    let first = start.line as u32;
+    let read = read_node(body, table, board, LineKind::First, 128, start);
+    match read {
+        Read::Refused { verdict } => TreeRead::Refused { verdict },
+        Read::Got { after } => {
+            if after.at < body.len() {
+                let line = after.line as u32;
+                TreeRead::Refused {
+                    verdict: Verdict::TextAfter { line },
+                }
+            } else {
+                TreeRead::Got { first }
+            }
+        }
+    }
+}
+
+// The reading of a body: its tree, and its set-up stones. (No stones where it is refused.)
+pub struct BodyRead {
+    pub tree: TreeRead,
+    pub stones: Stones,
+}
+
+// A body that is refused.
+fn unread(verdict: Verdict) -> BodyRead
+    ensures { λ r. ⌜ Unread verdict r ⌝ }
+{
+    BodyRead {
+        tree: TreeRead::Refused { verdict },
+        stones: Stones::empty(),
+    }
+}
+
+// The body after the header line, read as a text that begins where the header ended: set-up lines, one tree and no text after it.
 pub fn read_body(body: &[u8], table: &mut [u32], board: Board) -> BodyRead
     requires { ⌜ BodyReady board (now body) (now table) ⌝ }
     ensures { λ r. ⌜ BodyKept board (now (body .entry)) (now (table .entry)) r (now (table .exit)) ⌝ }
 {
-    let start = Spot {
-        at: 0,
-        line: 2,
-        nodes: 0,
-    };
-    let read = read_node(body, table, board, LineKind::First, 128, start);
+    let set_up = read_set_up(body, board);
+    let stones = set_up.stones;
+    let read = set_up.read;
     match read {
-        Read::Refused { verdict } => BodyRead::Refused { verdict },
+        Read::Refused { verdict } => unread(verdict),
         Read::Got { after } => {
-            if after.at < body.len() {
-                let line = after.line as u32;
-                BodyRead::Refused {
-                    verdict: Verdict::TextAfter { line },
-                }
-            } else {
-                BodyRead::Got
+            let tree = read_tree(body, table, board, after);
+            match tree {
+                TreeRead::Refused { verdict } => unread(verdict),
+                TreeRead::Got { first } => BodyRead {
+                    tree: TreeRead::Got { first },
+                    stones,
+                },
             }
         }
     }

@@ -60,6 +60,8 @@ pub fn tell(v: Verdict) -> Told
         Verdict::NoSuchCell => refusal(16, 0, 0, 0),
         Verdict::CellTaken => refusal(17, 0, 0, 0),
         Verdict::NoSuchOutcome => refusal(18, 0, 0, 0),
+        Verdict::SetUpTwice { line, cell } => refusal(19, line, cell, 0),
+        Verdict::OnSetUp { line, cell } => refusal(20, line, cell, 0),
     }
 }
 

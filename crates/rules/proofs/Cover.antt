@@ -15,7 +15,7 @@ use Rattle.rules.specs.Words.{_∈_, at-head, in-tail, among}
 use Rattle.rules.specs.Board.{isCell, smallest}
 use Rattle.rules.specs.Text.{Bytes}
 use Rattle.rules.specs.Joining.{joined}
-use Rattle.rules.specs.Tree.{Waits, noWaits, wait, Moves, noMoves, move, Wait, Move, Sheet, stone, movesOfWaits, movesOfMoves, waitsOfWaits, waitsOfMoves, everyMove, everyWait, waitCount}
+use Rattle.rules.specs.Tree.{Waits, noWaits, wait, Moves, noMoves, move, Wait, Move, Stone, Sheet, stone, setUpCells, ownCells, oppCells, atStart, movesOfWaits, movesOfMoves, waitsOfWaits, waitsOfMoves, everyMove, everyWait, waitCount}
 use Rattle.rules.specs.Reading.{got}
 use Rattle.rules.specs.Fair.{inWaits, inMoves, inMove, holding, inEvery}
 use Rattle.rules.specs.Outcomes.{outcomes, outcomesOfWaits}
@@ -26,7 +26,8 @@ use Rattle.rules.specs.Plain.{IsApart, IsElusive, IsSheet}
 use Rattle.rules.specs.Promise.{Ruled, no-move, one-move, Against, no-turn, turn, MovesToEmpty, JoinedAgainst, AnsweredAt, PlaysOut, Demand3}
 use Rattle.rules.specs.Holder.{allowed, Chosen, no-round, round, Covered, HasChoice, Demand3Chosen}
 use Rattle.rules.specs.declared.Board.{Board}
-use Rattle.rules.proofs.Tests.{true-of, false-of, decide, both, fst, snd, left, cases, nor}
+use Rattle.rules.proofs.SetUp.{either-side}
+use Rattle.rules.proofs.Tests.{true-of, false-of, decide, both, fst, snd, left, right, cases, nor}
 use Rattle.rules.proofs.Lists.{in-append, in-first, in-second, append-left, append-right}
 use Rattle.rules.proofs.Joining.{joined-more, joins→joined}
 use Rattle.rules.proofs.Smallest.{smallest-some, smallest-none}
@@ -39,28 +40,35 @@ use Rattle.rules.proofs.Answering.{answers, not-held, right-wait}
 abbrev OnBoard : Board → Waits → Type 0
 OnBoard b ws = (x : ℕ) → T (inWaits ws x) → T (isCell b x)
 
+-- what holds of each move's cell holds of each cell in the waits, and in the moves
 mutual
   unfolding inWaits movesOfWaits
 
-  board-waits : (b : Board) (ws : Waits) → ((m : Move) → m ∈ movesOfWaits ws → T (isCell b (m .cell))) → OnBoard b ws
-  board-waits b noWaits h x i = absurd i
-  board-waits b (wait line ms ws) h x i =
+  cells-waits : (P : ℕ → Type 0) (ws : Waits) → ((m : Move) → m ∈ movesOfWaits ws → P (m .cell)) → (x : ℕ) → T (inWaits ws x) → P x
+  cells-waits P noWaits h x i = absurd i
+  cells-waits P (wait line ms ws) h x i =
       elim (cases (inMoves ms x) (inWaits ws x) i) [
-        | inl k ↦ board-moves b ms (λ m j. h m (in-first (movesOfWaits ws) j)) x k
-        | inr k ↦ board-waits b ws (λ m j. h m (in-second (movesOfMoves ms) j)) x k
+        | inl k ↦ cells-moves P ms (λ m j. h m (in-first (movesOfWaits ws) j)) x k
+        | inr k ↦ cells-waits P ws (λ m j. h m (in-second (movesOfMoves ms) j)) x k
       ]
 
-  board-moves : (b : Board) (ms : Moves) → ((m : Move) → m ∈ movesOfMoves ms → T (isCell b (m .cell))) → (x : ℕ) → T (inMoves ms x) → T (isCell b x)
-  board-moves b noMoves h x i = absurd i
-  board-moves b (move line c ws ms) h x i =
+  cells-moves : (P : ℕ → Type 0) (ms : Moves) → ((m : Move) → m ∈ movesOfMoves ms → P (m .cell)) → (x : ℕ) → T (inMoves ms x) → P x
+  cells-moves P noMoves h x i = absurd i
+  cells-moves P (move line c ws ms) h x i =
       elim (cases (eqb x c || inWaits ws x) (inMoves ms x) i) [
         | inl k ↦
             elim (cases (eqb x c) (inWaits ws x) k) [
-              | inl e ↦ subst⁻¹ (λ z. T (isCell b z)) (eqb→eq x c e) (h (record { line = line; cell = c; waits = ws }) at-head)
-              | inr j ↦ board-waits b ws (λ m l. h m (in-tail (in-first (movesOfMoves ms) l))) x j
+              | inl e ↦ subst⁻¹ P (eqb→eq x c e) (h (record { line = line; cell = c; waits = ws }) at-head)
+              | inr j ↦ cells-waits P ws (λ m l. h m (in-tail (in-first (movesOfMoves ms) l))) x j
             ]
-        | inr k ↦ board-moves b ms (λ m j. h m (in-tail (in-second (movesOfWaits ws) j))) x k
+        | inr k ↦ cells-moves P ms (λ m j. h m (in-tail (in-second (movesOfWaits ws) j))) x k
       ]
+
+board-waits : (b : Board) (ws : Waits) → ((m : Move) → m ∈ movesOfWaits ws → T (isCell b (m .cell))) → OnBoard b ws
+board-waits b ws h = cells-waits (λ c. T (isCell b c)) ws h
+
+board-moves : (b : Board) (ms : Moves) → ((m : Move) → m ∈ movesOfMoves ms → T (isCell b (m .cell))) → (x : ℕ) → T (inMoves ms x) → T (isCell b x)
+board-moves b ms h = cells-moves (λ c. T (isCell b c)) ms h
 
 apart-all : (b : Board) (m : Move) → OnBoard b (m .waits) → IsApart b m → Apart (m .cell) (m .waits)
 apart-all b m on a =
@@ -117,26 +125,40 @@ record Safe (s : Sheet) (g : Game) : Type 0 where
 
 -- the start
 begin : (w : ℕ) (t : Bytes) (s : Sheet) → IsSheet w t s → Safe s (start s)
-unfolding start mine everyMove everyWait outcomes among stone
+unfolding start mine atStart everyMove everyWait outcomes among stone
 begin w t s a =
     let r = a .fair .read .spells .well in
     let b = s .board in
     let ws = s .root .waits in
     let on = board-waits b ws (r .on-board) in
     let top = apart-all b (s .root) on (a .fair .apart (s .root) at-head) in
+    let off = set-up-off (λ m i. a .fair .free m (in-tail i) .no-stone (r .on-board m i)) in
     record {
       fair = fair-waits b ws (λ m i. (r .on-board m i, a .fair .apart m (in-tail i))) (λ v i. (r .some-moves v i, a .fair .elusive v i));
       once = top .once;
       board = λ y h. on y (hold-in y ws h);
       off-mine =
-          λ y h. ⊎-elim (λ i. own-off (s .root .cell) y (top .own) i) (λ i. absurd i) (in-append y (stone (s .root .cell)) [] h);
-      off-theirs = λ y h. absurd h;
+          λ y h.
+          ⊎-elim
+          (λ i.
+          ⊎-elim (λ k. off y (left (among (ownCells (s .set-up)) y) (among (oppCells (s .set-up)) y) k)) (λ k. own-off (s .root .cell) y (top .own) k)
+          (in-append y (ownCells (s .set-up)) (stone (s .root .cell)) i))
+          (λ i. absurd i) (in-append y (ownCells (s .set-up) ++ stone (s .root .cell)) [] h);
+      off-theirs = λ y h. off y (right (among (ownCells (s .set-up)) y) (among (oppCells (s .set-up)) y) h);
       joins =
           each-map-nil
-          (each-unmap (λ o. T (joined b (s .player) (among o))) (λ o. stone (s .root .cell) ++ o) (outcomesOfWaits ws)
+          (each-unmap (λ o. T (joined b (s .player) (among o))) (λ o. atStart s ++ o) (outcomesOfWaits ws)
           (each-in (λ o. T (joined b (s .player) (among o))) (outcomes s) (λ o i. joins→joined b (s .player) (among o) (a .satisfying o i))));
     }
   where
+    set-up-off : ((m : Move) → m ∈ movesOfWaits (s .root .waits) → T (among (setUpCells (s .set-up)) (m .cell)) → ⊥)
+        → (y : ℕ) → T (among (ownCells (s .set-up)) y || among (oppCells (s .set-up)) y) → holding (s .root .waits) y ≡ 0
+    set-up-off free y h =
+        ⊎-elim
+        (λ i. absurd (cells-waits (λ c. T (among (setUpCells (s .set-up)) c) → ⊥) (s .root .waits) free y i (subst⁻¹ T (either-side (s .set-up) y) h)))
+        (λ n. out-hold y (s .root .waits) n)
+        (decide (inWaits (s .root .waits) y))
+
     own-off : (c y : ℕ) → T (not (inWaits (s .root .waits) c)) → T (among (stone c) y) → holding (s .root .waits) y ≡ 0
     own-off zero y n h = absurd h
     own-off (suc c) y n h =
@@ -145,9 +167,9 @@ begin w t s a =
         (λ e. absurd e)
         (cases (eqb y (suc c)) false h)
 
-    each-map-nil : Each (λ o. T (joined (s .board) (s .player) (among (stone (s .root .cell) ++ o)))) (outcomesOfWaits (s .root .waits))
-        → Each (λ o. T (joined (s .board) (s .player) (among ((stone (s .root .cell) ++ []) ++ o)))) (outcomesOfWaits (s .root .waits))
-    each-map-nil h = rw (append-nil (stone (s .root .cell))) h
+    each-map-nil : Each (λ o. T (joined (s .board) (s .player) (among (atStart s ++ o)))) (outcomesOfWaits (s .root .waits))
+        → Each (λ o. T (joined (s .board) (s .player) (among ((atStart s ++ []) ++ o)))) (outcomesOfWaits (s .root .waits))
+    each-map-nil h = rw (append-nil (atStart s)) h
 
 -- a stone more
 snoc-in : (xs : List ℕ) (c y : ℕ) → T (among (xs ++ c ∷ []) y) → T (eqb y c) ⊎ T (among xs y)
@@ -156,7 +178,7 @@ snoc-in xs c y h = elim (in-append y xs (c ∷ []) h) [ inl i ↦ inr i | inr i 
 
 pub mine-next : (s : Sheet) (g : Game) (x : ℕ) (k : Choice (g .open-waits)) → mine s (next g x k) ≡ mine s g ++ taken (g .open-waits) k ∷ []
 unfolding mine next
-mine-next s g x k = sym (append-assoc (stone (s .root .cell)) (g .answers) (taken (g .open-waits) k ∷ []))
+mine-next s g x k = sym (append-assoc (atStart s) (g .answers) (taken (g .open-waits) k ∷ []))
 
 -- a new stone, which no open wait holds any more, and the older stones
 cleared : (c : ℕ) (old : List ℕ) (ws us : Waits) → ((y : ℕ) → holding us y ≤ holding ws y) → holding us c ≡ 0

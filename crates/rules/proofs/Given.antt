@@ -14,18 +14,18 @@ use Rattle.rules.specs.Words.{_∈_, at-head, in-tail, among}
 use Rattle.rules.specs.Board.{isCell}
 use Rattle.rules.specs.Text.{Bytes}
 use Rattle.rules.specs.Joining.{Joins, joined}
-use Rattle.rules.specs.Tree.{Wait, Move, Sheet, everyMove, everyWait}
+use Rattle.rules.specs.Tree.{Wait, Move, Stone, Sheet, setUpCells, everyMove, everyWait}
 use Rattle.rules.specs.Reading.{Result, refused, got, readSheet}
-use Rattle.rules.specs.Fair.{Fault, inWaits, holding, notApart, notElusive, firstNotApart, firstNotElusive}
+use Rattle.rules.specs.Fair.{Fault, inWaits, holding, onSetUp, notApart, notElusive, firstOnSetUp, firstNotApart, firstNotElusive}
 use Rattle.rules.specs.Outcomes.{outcomes, outcomeCount}
 use Rattle.rules.specs.Entries.{_>>=_, refuseIf, refuseFault, refuseUnjoined, readTextUpTo, readUpTo, read, fair, satisfying, accepted, judged, judge}
-use Rattle.rules.specs.Plain.{IsApart, IsElusive, AllApart, AllElusive, AllJoin, WithinSizes, IsRead, IsFair, IsSheet, Given, as-accepted, as-small, as-long, as-unread, as-not-apart, as-not-elusive, as-too-many, as-not-joined}
+use Rattle.rules.specs.Plain.{IsFree, IsApart, IsElusive, AllFree, AllApart, AllElusive, AllJoin, WithinSizes, IsRead, IsFair, IsSheet, Given, as-accepted, as-small, as-long, as-unread, as-on-set-up, as-not-apart, as-not-elusive, as-too-many, as-not-joined}
 use Rattle.rules.specs.declared.Board.{Board}
 use Rattle.rules.specs.declared.Player.{Player}
 use Rattle.rules.specs.Verdict.{told}
 use Rattle.rules.specs.declared.Told.{Told}
 use Rattle.rules.specs.declared.Verdict.{Verdict}
-use Rattle.rules.specs.declared.Verdict.the-variants.{SmallWorkspace, LongText, NotApart, NotElusive, TooManyOutcomes, NotJoined}
+use Rattle.rules.specs.declared.Verdict.the-variants.{SmallWorkspace, LongText, OnSetUp, NotApart, NotElusive, TooManyOutcomes, NotJoined}
 use Rattle.rules.proofs.Tests.{true-of, false-of, both, fst, snd, left, right, cases}
 use Rattle.rules.proofs.Lists.{all-cons, nothing-in}
 use Rattle.rules.proofs.Joining.{joined→joins, joins→joined}
@@ -35,7 +35,17 @@ use Rattle.rules.proofs.Written.{reads-exactly}
 use Rattle.rules.proofs.Unread.{refused-exactly}
 use Rattle.rules.proofs.Steps.{not-refused, got-inj, then-got, refuseIf-got, refuseFault-got}
 
--- apart and elusive, at a node
+-- free, apart and elusive, at a node
+free-clean : (b : Board) (cs : List Stone) (m : Move) → IsFree b cs m → (x : ℕ) → T (isCell b x) → T (onSetUp cs m x) → ⊥
+unfolding onSetUp
+free-clean b cs m a x i h =
+    let e = eqb→eq x (m .cell) (fst (eqb x (m .cell)) (among (setUpCells cs) x) h) in
+    a .no-stone (subst (λ z. T (isCell b z)) e i) (subst (λ z. T (among (setUpCells cs) z)) e (snd (eqb x (m .cell)) (among (setUpCells cs) x) h))
+
+clean-free : (b : Board) (cs : List Stone) (m : Move) → ((x : ℕ) → T (isCell b x) → T (onSetUp cs m x) → ⊥) → IsFree b cs m
+unfolding onSetUp
+clean-free b cs m h = record { no-stone = λ i k. h (m .cell) i (both (eqb (m .cell) (m .cell)) (among (setUpCells cs) (m .cell)) (eqb-refl (m .cell)) k) }
+
 at-most-one : (n : ℕ) → (2 ≤ n → ⊥) → n ≤ 1
 at-most-one zero h = omega arith
 at-most-one (suc zero) h = omega arith
@@ -75,6 +85,18 @@ unfolding notElusive
 clean-elusive b w h = record { no-cell-in-all = h }
 
 -- over the whole tree
+pub free-none : (s : Sheet) → AllFree s → firstOnSetUp s ≡ none
+unfolding firstOnSetUp
+free-none s a = clean-none (s .board) (λ (m : Move). m .line) (onSetUp (s .set-up)) (everyMove s) (λ m i. free-clean (s .board) (s .set-up) m (a m i))
+
+pub none-free : (s : Sheet) → firstOnSetUp s ≡ none → AllFree s
+unfolding firstOnSetUp
+none-free s e m i = clean-free (s .board) (s .set-up) m (none-clean (s .board) (λ (m : Move). m .line) (onSetUp (s .set-up)) (everyMove s) e m i)
+
+-- without set-up stones no move is on one
+pub bare-free : (s : Sheet) → s .set-up ≡ [] → firstOnSetUp s ≡ none
+bare-free s e = free-none s (λ m i. record { no-stone = λ on h. unfold setUpCells among in subst (λ (cs : List Stone). T (among (setUpCells cs) (m .cell))) e h })
+
 pub apart-none : (s : Sheet) → AllApart s → firstNotApart s ≡ none
 unfolding firstNotApart
 apart-none s a = clean-none (s .board) (λ (m : Move). m .line) notApart (everyMove s) (λ m i. apart-clean (s .board) m (a m i))
@@ -165,23 +187,27 @@ module _ (w : ℕ) (t : Bytes) where
   unfolding judge _>>=_
   reply-got s r = rw (accepted-read (r .sizes), reads-exactly t s .1 (r .spells))
 
--- a sheet that was read: 10, 11 and 12
+-- a sheet that was read: 20, 10, 11 and 12
 module _ (s : Sheet) where
-  pub fair-apart : (f : Fault) → firstNotApart s ≡ some f → fair s ≡ refused (NotApart (f .line) (f .cell))
+  pub fair-on : (f : Fault) → firstOnSetUp s ≡ some f → fair s ≡ refused (OnSetUp (f .line) (f .cell))
   unfolding fair refuseFault _>>=_
-  fair-apart f e = rw e
+  fair-on f e = rw e
 
-  pub fair-elusive : (f : Fault) → firstNotApart s ≡ none → firstNotElusive s ≡ some f → fair s ≡ refused (NotElusive (f .line) (f .cell))
+  pub fair-apart : (f : Fault) → firstOnSetUp s ≡ none → firstNotApart s ≡ some f → fair s ≡ refused (NotApart (f .line) (f .cell))
   unfolding fair refuseFault _>>=_
-  fair-elusive f a e = rw (a, e)
+  fair-apart f o e = rw (o, e)
 
-  pub fair-many : firstNotApart s ≡ none → firstNotElusive s ≡ none → mostOutcomes < outcomeCount s → fair s ≡ refused TooManyOutcomes
-  unfolding fair refuseFault refuseIf _>>=_
-  fair-many a e m = rw (a, e, lt-ltb mostOutcomes (outcomeCount s) m)
+  pub fair-elusive : (f : Fault) → firstOnSetUp s ≡ none → firstNotApart s ≡ none → firstNotElusive s ≡ some f → fair s ≡ refused (NotElusive (f .line) (f .cell))
+  unfolding fair refuseFault _>>=_
+  fair-elusive f o a e = rw (o, a, e)
 
-  pub fair-passed : firstNotApart s ≡ none → firstNotElusive s ≡ none → outcomeCount s ≤ mostOutcomes → fair s ≡ got s
+  pub fair-many : firstOnSetUp s ≡ none → firstNotApart s ≡ none → firstNotElusive s ≡ none → mostOutcomes < outcomeCount s → fair s ≡ refused TooManyOutcomes
   unfolding fair refuseFault refuseIf _>>=_
-  fair-passed a e m = rw (a, e, le-ltb mostOutcomes (outcomeCount s) m)
+  fair-many o a e m = rw (o, a, e, lt-ltb mostOutcomes (outcomeCount s) m)
+
+  pub fair-passed : firstOnSetUp s ≡ none → firstNotApart s ≡ none → firstNotElusive s ≡ none → outcomeCount s ≤ mostOutcomes → fair s ≡ got s
+  unfolding fair refuseFault refuseIf _>>=_
+  fair-passed o a e m = rw (o, a, e, le-ltb mostOutcomes (outcomeCount s) m)
 
   fair-refused : (v : Verdict) → fair s ≡ refused v → judged (fair s >>= satisfying) ≡ v
   unfolding judged _>>=_
@@ -195,11 +221,11 @@ module _ (s : Sheet) where
   unfolding _>>=_
   fair-satisfying w t f =
       reply-got w t s (f .read)
-      ∙ ap (λ (r : Result Sheet). judged (r >>= satisfying)) (fair-passed (apart-none s (f .apart)) (elusive-none s (f .elusive)) (f .few))
+      ∙ ap (λ (r : Result Sheet). judged (r >>= satisfying)) (fair-passed (free-none s (f .free)) (apart-none s (f .apart)) (elusive-none s (f .elusive)) (f .few))
 
 -- every case of the table is what judge's reply tells
 pub given-judge : (w : ℕ) (t : Bytes) (n : Told) → Given w t n → told (judge w t) ≡ n
-unfolding judged _>>=_ firstNotApart firstNotElusive
+unfolding judged _>>=_ firstOnSetUp firstNotApart firstNotElusive
 given-judge w t _ (as-accepted s h) =
     ap told (
     fair-satisfying s w t (h .fair)
@@ -208,12 +234,14 @@ given-judge w t _ (as-accepted s h) =
 given-judge w t _ (as-small h) = ap told (reply-small w t h)
 given-judge w t _ (as-long h k) = ap told (reply-long w t h k)
 given-judge w t _ (as-unread v z u) = ap told (reply-unread w t v z (refused-exactly t v .1 u))
-given-judge w t _ (as-not-apart s f r h) =
-    ap told (reply-got w t s r ∙ fair-refused s _ (fair-apart s f (is-first (s .board) (λ (m : Move). m .line) notApart (everyMove s) f h)))
-given-judge w t _ (as-not-elusive s f r a h) =
+given-judge w t _ (as-on-set-up s f r h) =
+    ap told (reply-got w t s r ∙ fair-refused s _ (fair-on s f (is-first (s .board) (λ (m : Move). m .line) (onSetUp (s .set-up)) (everyMove s) f h)))
+given-judge w t _ (as-not-apart s f r o h) =
+    ap told (reply-got w t s r ∙ fair-refused s _ (fair-apart s f (free-none s o) (is-first (s .board) (λ (m : Move). m .line) notApart (everyMove s) f h)))
+given-judge w t _ (as-not-elusive s f r o a h) =
     ap told
-    (reply-got w t s r ∙ fair-refused s _ (fair-elusive s f (apart-none s a) (is-first (s .board) (λ (v : Wait). v .line) notElusive (everyWait s) f h)))
-given-judge w t _ (as-too-many s r a l m) = ap told (reply-got w t s r ∙ fair-refused s _ (fair-many s (apart-none s a) (elusive-none s l) m))
+    (reply-got w t s r ∙ fair-refused s _ (fair-elusive s f (free-none s o) (apart-none s a) (is-first (s .board) (λ (v : Wait). v .line) notElusive (everyWait s) f h)))
+given-judge w t _ (as-too-many s r o a l m) = ap told (reply-got w t s r ∙ fair-refused s _ (fair-many s (free-none s o) (apart-none s a) (elusive-none s l) m))
 given-judge w t _ (as-not-joined s i f h) =
     ap told (
     fair-satisfying s w t f
@@ -238,35 +266,42 @@ module _ (w : ℕ) (t : Bytes) (s : Sheet) (r : IsRead w t s) where
       let n : 0 + i ≡ i = omega arith in
       rw n (as-not-joined s i f (record { is-number = omega (arith, count-is-length s); not-joined = not-so; joined-before = so }))
 
-  count-given : AllApart s → AllElusive s → (b : Bool) → ltb mostOutcomes (outcomeCount s) ≡ b → GivenAs w t (judged (fair s >>= satisfying))
+  count-given : AllFree s → AllApart s → AllElusive s → (b : Bool) → ltb mostOutcomes (outcomeCount s) ≡ b → GivenAs w t (judged (fair s >>= satisfying))
   unfolding _>>=_
-  count-given a l true q =
-      subst⁻¹ (GivenAs w t) (fair-refused s _ (fair-many s (apart-none s a) (elusive-none s l) (ltb-true mostOutcomes (outcomeCount s) q)))
-      (as-too-many s r a l (ltb-true mostOutcomes (outcomeCount s) q))
-  count-given a l false q =
+  count-given o a l true q =
+      subst⁻¹ (GivenAs w t) (fair-refused s _ (fair-many s (free-none s o) (apart-none s a) (elusive-none s l) (ltb-true mostOutcomes (outcomeCount s) q)))
+      (as-too-many s r o a l (ltb-true mostOutcomes (outcomeCount s) q))
+  count-given o a l false q =
       let m = ltb-false mostOutcomes (outcomeCount s) q in
-      subst⁻¹ (λ (u : Result Sheet). GivenAs w t (judged (u >>= satisfying))) (fair-passed s (apart-none s a) (elusive-none s l) m)
+      subst⁻¹ (λ (u : Result Sheet). GivenAs w t (judged (u >>= satisfying))) (fair-passed s (free-none s o) (apart-none s a) (elusive-none s l) m)
       (subst⁻¹ (λ (u : Result Sheet). GivenAs w t (judged u)) (fault-joined s (refuseUnjoined (s .board) (s .player) 0 (outcomes s)) refl)
-      (joined-given (record { read = r; apart = a; elusive = l; few = m }) (refuseUnjoined (s .board) (s .player) 0 (outcomes s)) (walked (s .board) (s .player) 0 (outcomes s))))
+      (joined-given (record { read = r; free = o; apart = a; elusive = l; few = m }) (refuseUnjoined (s .board) (s .player) 0 (outcomes s)) (walked (s .board) (s .player) 0 (outcomes s))))
 
-  elusive-given : AllApart s → (f : Option Fault) → firstNotElusive s ≡ f → GivenAs w t (judged (fair s >>= satisfying))
+  elusive-given : AllFree s → AllApart s → (f : Option Fault) → firstNotElusive s ≡ f → GivenAs w t (judged (fair s >>= satisfying))
   unfolding firstNotElusive
-  elusive-given a none q = count-given a (none-elusive s q) (ltb mostOutcomes (outcomeCount s)) refl
-  elusive-given a (some f) q =
-      subst⁻¹ (GivenAs w t) (fair-refused s _ (fair-elusive s f (apart-none s a) q))
-      (as-not-elusive s f r a (first-is (s .board) (λ (v : Wait). v .line) notElusive (everyWait s) f q))
+  elusive-given o a none q = count-given o a (none-elusive s q) (ltb mostOutcomes (outcomeCount s)) refl
+  elusive-given o a (some f) q =
+      subst⁻¹ (GivenAs w t) (fair-refused s _ (fair-elusive s f (free-none s o) (apart-none s a) q))
+      (as-not-elusive s f r o a (first-is (s .board) (λ (v : Wait). v .line) notElusive (everyWait s) f q))
 
-  apart-given : (f : Option Fault) → firstNotApart s ≡ f → GivenAs w t (judged (fair s >>= satisfying))
+  apart-given : AllFree s → (f : Option Fault) → firstNotApart s ≡ f → GivenAs w t (judged (fair s >>= satisfying))
   unfolding firstNotApart
-  apart-given none q = elusive-given (none-apart s q) (firstNotElusive s) refl
-  apart-given (some f) q =
-      subst⁻¹ (GivenAs w t) (fair-refused s _ (fair-apart s f q)) (as-not-apart s f r (first-is (s .board) (λ (m : Move). m .line) notApart (everyMove s) f q))
+  apart-given o none q = elusive-given o (none-apart s q) (firstNotElusive s) refl
+  apart-given o (some f) q =
+      subst⁻¹ (GivenAs w t) (fair-refused s _ (fair-apart s f (free-none s o) q)) (as-not-apart s f r o (first-is (s .board) (λ (m : Move). m .line) notApart (everyMove s) f q))
+
+  free-given : (f : Option Fault) → firstOnSetUp s ≡ f → GivenAs w t (judged (fair s >>= satisfying))
+  unfolding firstOnSetUp
+  free-given none q = apart-given (none-free s q) (firstNotApart s) refl
+  free-given (some f) q =
+      subst⁻¹ (GivenAs w t) (fair-refused s _ (fair-on s f q))
+      (as-on-set-up s f r (first-is (s .board) (λ (m : Move). m .line) (onSetUp (s .set-up)) (everyMove s) f q))
 
 read-given : (w : ℕ) (t : Bytes) → WithinSizes w t → (u : Result Sheet) → readSheet t ≡ u → GivenAs w t (judge w t)
 read-given w t z (refused v) e = subst⁻¹ (GivenAs w t) (reply-unread w t v z e) (as-unread v z (refused-exactly t v .0 e))
 read-given w t z (got s) e =
     let r : IsRead w t s = record { sizes = z; spells = reads-exactly t s .0 e } in
-    subst⁻¹ (GivenAs w t) (reply-got w t s r) (apart-given w t s r (firstNotApart s) refl)
+    subst⁻¹ (GivenAs w t) (reply-got w t s r) (free-given w t s r (firstOnSetUp s) refl)
 
 pub judge-given : (w : ℕ) (t : Bytes) → Given w t (told (judge w t))
 judge-given w t = sized (ltb w leastWorkspace) refl
@@ -299,7 +334,8 @@ fair→ w t s e =
     let a = then-got (read w t) fair s e in
     let b = then-got (refuseIf (ltb w leastWorkspace) SmallWorkspace) _ (a .0) (a .1) in
     let c = then-got (refuseIf (ltb mostBytes (length t)) LongText) _ (a .0) (b .2) in
-    let d = then-got (refuseFault NotApart (firstNotApart (a .0))) _ s (a .2) in
+    let o = then-got (refuseFault OnSetUp (firstOnSetUp (a .0))) _ s (a .2) in
+    let d = then-got (refuseFault NotApart (firstNotApart (a .0))) _ s (o .2) in
     let f = then-got (refuseFault NotElusive (firstNotElusive (a .0))) _ s (d .2) in
     let g = then-got (refuseIf (ltb mostOutcomes (outcomeCount (a .0))) TooManyOutcomes) _ s (f .2) in
     let same : a .0 ≡ s = got-inj (g .2) in
@@ -309,6 +345,7 @@ fair→ w t s e =
             sizes = record { enough = ltb-false w leastWorkspace (refuseIf-got _ _ _ (b .1)); short = ltb-false mostBytes (length t) (refuseIf-got _ _ _ (c .1)) };
             spells = reads-exactly t s .0 (c .2 ∙ ap got same);
           };
+      free = none-free s (subst (λ (z : Sheet). firstOnSetUp z ≡ none) same (refuseFault-got _ _ _ (o .1)));
       apart = none-apart s (subst (λ (z : Sheet). firstNotApart z ≡ none) same (refuseFault-got _ _ _ (d .1)));
       elusive = none-elusive s (subst (λ (z : Sheet). firstNotElusive z ≡ none) same (refuseFault-got _ _ _ (f .1)));
       few = subst (λ (z : Sheet). outcomeCount z ≤ mostOutcomes) same (ltb-false mostOutcomes (outcomeCount (a .0)) (refuseIf-got _ _ _ (g .1)));
@@ -318,7 +355,7 @@ fair→ w t s e =
 unfolding readUpTo readTextUpTo refuseIf _>>=_
 →fair w t s h =
     rw (le-ltb w leastWorkspace (h .read .sizes .enough), le-ltb mostBytes (length t) (h .read .sizes .short), reads-exactly t s .1 (h .read .spells))
-    (fair-passed s (apart-none s (h .apart)) (elusive-none s (h .elusive)) (h .few))
+    (fair-passed s (free-none s (h .free)) (apart-none s (h .apart)) (elusive-none s (h .elusive)) (h .few))
 
 -- what outcome asks of a sheet
 pub fair-exactly : (w : ℕ) (t : Bytes) (s : Sheet) → ((read w t >>= fair) ≡ got s) ↔ IsFair w t s

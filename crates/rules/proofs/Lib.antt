@@ -8,6 +8,7 @@ pub mod Decimal
 pub mod ReadBack
 pub mod Lines
 pub mod NodeLine
+pub mod SetUp
 pub mod Reading
 pub mod WellRead
 pub mod Written
@@ -21,7 +22,9 @@ pub mod Answering
 pub mod EachOutcome
 pub mod Cover
 pub mod GoesOn
+pub mod SameReplies
 pub mod UpTo
+pub mod Before
 pub mod OneReply
 pub mod Small
 pub mod OneMove

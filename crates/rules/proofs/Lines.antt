@@ -3,7 +3,7 @@ use mathlib.Core.Path.{_≡_, refl, ap, subst, _∙_}
 use Prim.Native.Nat.{ℕ, zero, suc, _+_, _-_, _≤_}
 use mathlib.Core.Bool.{Bool, true, false, _&&_}
 use mathlib.Core.List.{List, [], _∷_, _++_, append-assoc}
-use mathlib.Core.Logic.{_⊎_, inl, inr}
+use mathlib.Core.Logic.{_≢_, _⊎_, inl, inr}
 use mathlib.Core.Option.{Option, none, some, IsSome}
 use Prim.Native.Char.{code}
 use Prim.Native.String as S
@@ -11,11 +11,11 @@ use lib.Dec.{T, eqb, eqb→eq, leb, leb→le}
 use borrow.Author.Tests.{le-leb}
 use native.Mathlib.Omega.{arith}
 use Rattle.rules.specs.Sizes.{highestRow, mostUnder}
-use Rattle.rules.specs.Board.{cellAt, isCell, columnOf, rowOf}
+use Rattle.rules.specs.Board.{onBoard, cellAt, isCell, columnOf, rowOf}
 use Rattle.rules.specs.Text.{Bytes, Reader, bind, _>>_, _orElse_, give, guard, anyByte, byte, word, tab, lineFeed, isDigit, digits, number, numberIn}
-use Rattle.rules.specs.Lines.{Place, Line, Header, player, letter, place, moveLine, dashLine, waitLine, headerUpTo, readerOf}
+use Rattle.rules.specs.Lines.{Place, Line, Header, Side, own, opp, SetUpLine, side, setUpLine, player, letter, place, moveLine, dashLine, waitLine, headerUpTo, readerOf}
 use Rattle.rules.specs.Decimal.{decimal}
-use Rattle.rules.specs.Written.{printed, tabbed, aLine, writtenPlayer, writtenHeader, writtenPlace, placeOf, writtenMove, writtenWait}
+use Rattle.rules.specs.Written.{printed, tabbed, aLine, writtenPlayer, writtenHeader, writtenPlace, placeOf, writtenSide, writtenSetUp, writtenMove, writtenWait}
 use Rattle.rules.specs.Reading.{within, cellOf}
 use Rattle.rules.specs.Unread.{BoardUpTo, BoardSize, Nameable, IsLine, of-move, of-first, of-dash, of-wait}
 use Rattle.rules.specs.declared.Board.{Board}
@@ -118,6 +118,26 @@ place-is t y e =
     let l = letter-is t (c, u) p in
     subst (λ (z : Place × Bytes). (t ≡ writtenPlace (some (z .0)) ++ z .1) × Nameable (z .0)) (some-inj e′)
     (l .0 ∙ ap (λ (v : Bytes). (96 + c) ∷ v) r, record { letters = (l .1, l .2); rows = (lo, hi) })
+
+-- a set-up line
+side-is : (t : Bytes) (y : Side × Bytes) → side t ≡ some y → t ≡ writtenSide (y .0) ++ y .1
+unfolding side writtenSide give
+side-is t y e =
+    or-then (word "own" >> give own) (word "opp" >> give opp) t e
+    (λ d. word-then "own" t _ d λ u p q. p ∙ ap (λ (z : Side × Bytes). writtenSide (z .0) ++ z .1) (some-inj q))
+    (λ a. word-then "opp" t _ a λ u p q. p ∙ ap (λ (z : Side × Bytes). writtenSide (z .0) ++ z .1) (some-inj q))
+
+pub set-up-is : (t : Bytes) (y : SetUpLine × Bytes) → setUpLine t ≡ some y
+    → (t ≡ writtenSetUp (y .0 .side) (some (y .0 .place)) ++ y .1) × Nameable (y .0 .place)
+unfolding setUpLine writtenSetUp tab lineFeed printed aLine tabbed give
+set-up-is t y e =
+    step-then side t _ e λ o u₁ p₁ e₁.
+    byte-then 9 u₁ _ e₁ λ u₂ p₂ e₂.
+    step-then place u₂ _ e₂ λ p u₃ p₃ e₃.
+    byte-then 10 u₃ _ e₃ λ u₄ p₄ e₄.
+    let (named, nameable) = place-is u₂ (p, u₃) p₃ in
+    subst (λ (z : SetUpLine × Bytes). (t ≡ writtenSetUp (z .0 .side) (some (z .0 .place)) ++ z .1) × Nameable (z .0 .place)) (some-inj e₄)
+    (rw (side-is t (o, u₁) p₁, p₂, named, p₄) (simp append-assoc), nameable)
 
 -- what the reader of a kind of line read is such a line, before what is left
 pub record LineRead (k : LineKind) (t : Bytes) (y : Line × Bytes) : Type 0 where
@@ -232,6 +252,34 @@ place-back p u n e =
     rw (le-leb 97 (96 + p .column) (omega arith), le-leb (96 + p .column) 122 (omega arith), back)
     (step-back (number-back 1 highestRow (p .row) u (n .rows .0) (n .rows .1) e) _ refl)
 
+side-back : (o : Side) (u : Bytes) → side (writtenSide o ++ u) ≡ some (o, u)
+unfolding side writtenSide printed word byte anyByte guard bind give _orElse_
+side-back own u = refl
+side-back opp u = refl
+
+pub set-up-back : (o : Side) (p : Place) (u : Bytes) → Nameable p → setUpLine (writtenSetUp o (some p) ++ u) ≡ some (record { side = o; place = p }, u)
+unfolding setUpLine writtenSetUp tabbedOn tab lineFeed byte anyByte guard bind give digits isDigit
+set-up-back o p u h =
+    ap setUpLine (line-on (writtenSide o) (writtenPlace (some p) ∷ []) u)
+    ∙ step-back (side-back o _) _ (step-back (place-back p _ h refl) _ refl)
+
+-- every set-up line begins with `o`
+pub set-up-starts : (o : Side) (p : Option Place) (u : Bytes) → (rest : Bytes) × (writtenSetUp o p ++ u ≡ 111 ∷ rest)
+unfolding writtenSetUp aLine writtenSide printed
+set-up-starts own p u = (_, refl)
+set-up-starts opp p u = (_, refl)
+
+-- so a text that begins with another byte has none
+pub no-set-up-line : (c : ℕ) (t : Bytes) → c ≢ 111 → setUpLine (c ∷ t) ≡ none
+no-set-up-line c t h = go (setUpLine (c ∷ t)) refl
+  where
+    go : (o : Option (SetUpLine × Bytes)) → setUpLine (c ∷ t) ≡ o → o ≡ none
+    go none e = refl
+    go (some y) e =
+        let starts = set-up-starts (y .0 .side) (some (y .0 .place)) (y .1) in
+        let same : c ∷ t ≡ 111 ∷ starts .0 = set-up-is (c ∷ t) y e .0 ∙ starts .1 in
+        absurd (h (cc same))
+
 module _ (n : ℕ) (u : Bytes) (few : n ≤ mostUnder) where
   pub move-back : (p : Place) → Nameable p → moveLine (writtenMove (some p) n ++ u) ≡ some (record { place = some p; under = n }, u)
   unfolding moveLine writtenMove tabbedOn tab lineFeed byte word anyByte guard bind printed give digits isDigit
@@ -272,6 +320,25 @@ place-again b (some p) h =
     some-place b (cellAt b (p .column) (p .row)) (cell-range b _ (cell-at b (p .column) (p .row) o) .0)
     ∙ rw (column-at b (p .column) (p .row) o, row-at b (p .column) (p .row) o)
 
+-- a cell's place
+pub record Named (b : Board) (x : ℕ) : Type 0 where
+  pub place : Place
+  pub its-place : placeOf b x ≡ some place
+  pub nameable : Nameable place
+  pub inside : T (onBoard b (place .column) (place .row))
+  pub its-cell : cellAt b (place .column) (place .row) ≡ x
+
+pub place-names : (b : Board) (x : ℕ) → BoardSize b → T (isCell b x) → Named b x
+place-names b x z h =
+    let o = cell-place b x (z .columns .0) h in
+    record {
+      place = record { column = columnOf b x; row = rowOf b x };
+      its-place = some-place b x (cell-range b x h .0);
+      nameable = record { letters = (o .left, omega (arith, z .columns .1)); rows = (o .top, omega (arith, z .rows .1)) };
+      inside = on-test b (columnOf b x) (rowOf b x) o;
+      its-cell = at-place b x h;
+    }
+
 -- the cell's place is on the board, is that cell's, and is read where it is written
 pub record Names (r : Reader Line) (b : Board) (x : ℕ) : Type 0 where
   pub inside : T (within b (placeOf b x))
@@ -282,14 +349,11 @@ module _ (b : Board) (x : ℕ) (z : BoardSize b) where
   pub cell-names : T (isCell b x) → Names moveLine b x
   unfolding within cellOf
   cell-names h =
-      let o = cell-place b x (z .columns .0) h in
-      let e = some-place b x (cell-range b x h .0) in
+      let p = place-names b x z h in
       record {
-        inside = rw e (on-test b (columnOf b x) (rowOf b x) o);
-        its-cell = rw e (at-place b x h);
-        read =
-            λ n u l. rw e (move-back n u l (record { column = columnOf b x; row = rowOf b x })
-            (record { letters = (o .left, omega (arith, z .columns .1)); rows = (o .top, omega (arith, z .rows .1)) }));
+        inside = rw (p .its-place) (p .inside);
+        its-cell = rw (p .its-place) (p .its-cell);
+        read = λ n u l. rw (p .its-place) (move-back n u l (p .place) (p .nameable));
       }
 
   pub root-names : (x ≡ 0) ⊎ T (isCell b x) → Names (moveLine orElse dashLine) b x

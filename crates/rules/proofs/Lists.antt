@@ -167,3 +167,7 @@ nothing-in h = go h refl
     go : {A : Type 0} {x : A} {xs : List A} → x ∈ xs → xs ≡ [] → ⊥
     go at-head e = let z : _≡_ {A = ℕ} 0 1 = cc in omega arith
     go (in-tail h) e = let z : _≡_ {A = ℕ} 0 1 = cc in omega arith
+
+pub none-long : {A : Type 0} (xs : List A) → length xs ≡ 0 → xs ≡ []
+none-long [] e = refl
+none-long (x ∷ xs) e = absurd (omega (arith, e))

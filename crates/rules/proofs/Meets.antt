@@ -1,24 +1,31 @@
--- What meets the hypotheses of the theorems: the sample P1, and a game on it; P3, with a wait of one move.
-use mathlib.Core.Path.{refl, sym, subst, _∙_}
+-- What meets the hypotheses of the theorems: the sample P1, and a game on it; the same from set-up stones; P3, with a wait of one move.
+use mathlib.Core.Path.{_≡_, refl, sym, ap, subst, _∙_}
 use Prim.Native.Nat.{_<_}
 use native.Mathlib.Omega.{arith}
 use mathlib.Core.List.{[], _∷_}
+use mathlib.Core.Option.{none}
 use Rattle.rules.specs.Sizes.{leastWorkspace}
 use Rattle.rules.specs.Words.{at-head}
 use Rattle.rules.specs.Board.{smallest}
 use Rattle.rules.specs.Text.{Bytes}
-use Rattle.rules.specs.Lines.{Header}
+use Rattle.rules.specs.Lines.{Header, headerLine, setUpLine}
 use Rattle.rules.specs.Tree.{noWaits, noMoves, move, everyWait, waitsOfWaits}
 use Rattle.rules.specs.Choice.{the-first, one-later}
 use Rattle.rules.specs.Answering.{start, answered, next, isEmpty}
 use Rattle.rules.specs.Plain.{IsSheet, WellRead, IsElusive}
 use Rattle.rules.specs.Promise.{Ruled, no-move, one-move, MovesToEmpty}
 use Rattle.rules.specs.Holder.{Chosen, no-round, round}
-use Rattle.rules.specs.UpTo.{NoSizeFrom, SameReplies}
-use Rattle.rules.specs.Samples.{sheet, P1, P3, p1, p3}
-use Rattle.rules.specs.Computed.{p1-accepted, p1-opens, p1-header, p3-read}
+use Rattle.rules.specs.Entries.{readUpTo}
+use Rattle.rules.specs.SameReplies.{SameReplies}
+use Rattle.rules.specs.UpTo.{NoSizeFrom}
+use Rattle.rules.specs.Before.{WithoutSetUp, SameWithoutSetUp}
+use Rattle.rules.specs.Samples.{byteOf, sheet, P1, P3, p1, p3, stones, onStones}
+use Rattle.rules.specs.Computed.{p1-accepted, p1-opens, p1-header, p3-read, stones-accepted, stones-open}
 use Rattle.rules.proofs.Steps.{some-inj}
-use Rattle.rules.proofs.UpTo.{same-replies}
+use Rattle.rules.proofs.Lines.{header-back, no-set-up-line}
+use Rattle.rules.proofs.Unread.{read-no-line}
+use Rattle.rules.proofs.UpTo.{small-same}
+use Rattle.rules.proofs.Before.{same-without}
 use Rattle.rules.proofs.Written.{reads-exactly}
 use Rattle.rules.proofs.Given.{accepted-exactly}
 use Rattle.rules.proofs.Cover.{demand-3}
@@ -51,8 +58,27 @@ p1-small =
       rows = λ x e. subst (λ (z : Header × Bytes). z .0 .board .rows < 14) (some-inj (sym p1-header ∙ e)) (omega arith);
     }
 
-pub p1-same : SameReplies 13 (sheet P1)
-p1-same = same-replies 13 (omega arith) (sheet P1) p1-small
+pub p1-same : SameReplies (sheet P1) (λ w. readUpTo 13 w (sheet P1))
+p1-same = small-same 13 (omega arith) (sheet P1) p1-small
+
+-- no set-up line stands in P1, so it gets the reply that it got
+pub p1-bare : WithoutSetUp (sheet P1)
+p1-bare =
+    record {
+      no-line = λ b p left size e.
+          let same = some-inj (sym p1-header ∙ ap headerLine e ∙ header-back b p left size) in
+          read-no-line left (subst (λ (z : Header × Bytes). setUpLine (z .1) ≡ none) same (unfold sheet byteOf in no-set-up-line 109 _ (λ q. omega arith)));
+    }
+
+pub p1-same-bare : SameWithoutSetUp (sheet P1)
+p1-same-bare = same-without (sheet P1) p1-bare
+
+-- from set-up stones of both sides: a sheet, and a game of one round by the rule
+pub stones-sheet : IsSheet leastWorkspace (sheet stones) onStones
+stones-sheet = accepted-exactly leastWorkspace (sheet stones) onStones .0 stones-accepted
+
+pub stones-ruled : Ruled onStones (start onStones) (3 ∷ []) (answered (start onStones) 3)
+stones-ruled = one-move (stones-open .0) (stones-open .1) no-move
 
 -- P3 is read, and the one move of its wait is its fault
 pub p3-faulty : IsElusive (p3 .board) (record { line = 3; moves = move 4 3 noWaits noMoves }) → ⊥

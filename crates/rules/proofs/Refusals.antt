@@ -1,13 +1,13 @@
--- A refusal of the reading is one of 3 to 9, so judge replies that it accepts of sheets only.
+-- A refusal of the reading is one of 3 to 9 or 19, so judge replies that it accepts of sheets only.
 use mathlib.Core.Path.{_≡_, refl, subst}
-use mathlib.Core.Logic.{_↔_}
+use mathlib.Core.Logic.{_↔_, inl, inr}
 use Prim.Native.Nat.{ℕ}
 use native.Mathlib.Omega.{arith}
 use Rattle.rules.specs.Text.{Bytes}
 use Rattle.rules.specs.Reading.{refused, readSheet}
-use Rattle.rules.specs.Unread.{Unread, no-header, no-line, off-board, one-too-many, too-deep, text-ends, text-remains}
+use Rattle.rules.specs.Unread.{Unread, no-header, no-line, off-board, stone-off, stone-twice, one-too-many, too-deep, text-ends, text-remains}
 use Rattle.rules.specs.Entries.{judged, judge}
-use Rattle.rules.specs.Plain.{Given, as-accepted, as-small, as-long, as-unread, as-not-apart, as-not-elusive, as-too-many, as-not-joined, OfReading, AcceptedAs}
+use Rattle.rules.specs.Plain.{Given, as-accepted, as-small, as-long, as-unread, as-on-set-up, as-not-apart, as-not-elusive, as-too-many, as-not-joined, OfReading, AcceptedAs}
 use Rattle.rules.specs.Verdict.{told}
 use Rattle.rules.specs.declared.Counts.{Counts}
 use Rattle.rules.specs.declared.Told.{Told}
@@ -18,13 +18,15 @@ use Rattle.rules.proofs.Given.{judge-given, accepted-exactly}
 
 -- a refusal of the reading, case by case
 pub unread-of : {t : Bytes} {v : Verdict} → Unread t v → OfReading v
-unread-of (no-header h) = record { least = omega arith; most = omega arith }
-unread-of (no-line b n d ds left a some-text few h) = record { least = omega arith; most = omega arith }
-unread-of (off-board b n d ds line after l a i few deep off) = record { least = omega arith; most = omega arith }
-unread-of (one-too-many b d ds left a some-text) = record { least = omega arith; most = omega arith }
-unread-of (too-deep b n d ds line after l a i few deep) = record { least = omega arith; most = omega arith }
-unread-of (text-ends b n d ds a) = record { least = omega arith; most = omega arith }
-unread-of (text-remains b n left a some-text) = record { least = omega arith; most = omega arith }
+unread-of (no-header h) = record { least = omega arith; most = inl (omega arith) }
+unread-of (no-line b first n d ds left a some-text few h) = record { least = omega arith; most = inl (omega arith) }
+unread-of (off-board b first n d ds line after l a i few deep off) = record { least = omega arith; most = inl (omega arith) }
+unread-of (stone-off b cs o p after a h off) = record { least = omega arith; most = inl (omega arith) }
+unread-of (stone-twice b cs o p after a h on old) = record { least = omega arith; most = inr refl }
+unread-of (one-too-many b first d ds left a some-text) = record { least = omega arith; most = inl (omega arith) }
+unread-of (too-deep b first n d ds line after l a i few deep) = record { least = omega arith; most = inl (omega arith) }
+unread-of (text-ends b first n d ds a) = record { least = omega arith; most = inl (omega arith) }
+unread-of (text-remains b first n left a some-text) = record { least = omega arith; most = inl (omega arith) }
 
 pub reading-refusals : (t : Bytes) (v : Verdict) → readSheet t ≡ refused v → OfReading v
 reading-refusals t v e = unread-of (refused-exactly t v .0 e)
@@ -35,9 +37,10 @@ given-zero w t _ e (as-accepted s h) = record { sheet = s; is-sheet = h; counts-
 given-zero w t _ e (as-small h) = absurd (omega (arith, e))
 given-zero w t _ e (as-long h l) = absurd (omega (arith, e))
 given-zero w t _ e (as-unread v h u) = absurd (omega (arith, e, unread-of u .least))
-given-zero w t _ e (as-not-apart s f r i) = absurd (omega (arith, e))
-given-zero w t _ e (as-not-elusive s f r a i) = absurd (omega (arith, e))
-given-zero w t _ e (as-too-many s r a k l) = absurd (omega (arith, e))
+given-zero w t _ e (as-on-set-up s f r i) = absurd (omega (arith, e))
+given-zero w t _ e (as-not-apart s f r o i) = absurd (omega (arith, e))
+given-zero w t _ e (as-not-elusive s f r o a i) = absurd (omega (arith, e))
+given-zero w t _ e (as-too-many s r o a k l) = absurd (omega (arith, e))
 given-zero w t _ e (as-not-joined s i f h) = absurd (omega (arith, e))
 
 -- demand 2, of judge's reply: it is accepted exactly for sheets, with their counts

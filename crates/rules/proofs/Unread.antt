@@ -2,21 +2,23 @@
 use mathlib.Core.Path.{_≡_, refl, sym, ap, subst, subst⁻¹, _∙_}
 use mathlib.Core.Logic.{_≢_, _↔_, _⊎_, inl, inr, ⊎-elim}
 use Prim.Native.Nat.{ℕ, zero, suc, _+_, _-_, _≤_, _<_}
-use mathlib.Core.Bool.{Bool, true, false}
+use mathlib.Core.Bool.{Bool, true, false, not}
 use mathlib.Core.List.{List, [], _∷_, _++_}
 use mathlib.Core.Option.{Option, none, some}
 use lib.Dec.{T, ltb}
+use lib.ListN.{length}
 use borrow.Author.Tests.{ltb-true, ltb-false}
 use native.Mathlib.Nat.{eq-zero-or-pos}
 use native.Mathlib.Omega.{arith}
 use Rattle.rules.specs.Sizes.{mostNodes, mostDepth}
-use Rattle.rules.specs.Words.{_∈_, at-head, in-tail}
+use Rattle.rules.specs.Words.{_∈_, at-head, in-tail, among}
+use Rattle.rules.specs.Board.{onBoard}
 use Rattle.rules.specs.Text.{Bytes}
-use Rattle.rules.specs.Lines.{Line, Header, headerLine, readerOf, kindUnder}
-use Rattle.rules.specs.Tree.{Move, Sheet}
-use Rattle.rules.specs.Written.{printed, aLine, writtenMove, writtenWait}
-use Rattle.rules.specs.Reading.{Result, refused, got, Spot, Reading, go, give, within, cellOf, Node, nodeHere, nodeLine, inTurn, readMove, readWait, ended, readBody, headed, readSheetUpTo, readSheet}
-use Rattle.rules.specs.Unread.{IsLine, of-move, of-first, of-dash, of-wait, Due, dueAfter, Begins, after-header, after-line, Unread, no-header, no-line, off-board, one-too-many, too-deep, text-ends, text-remains}
+use Rattle.rules.specs.Lines.{Place, Line, Header, headerLine, Side, SetUpLine, setUpLine, readerOf, kindUnder}
+use Rattle.rules.specs.Tree.{Move, Stone, Sheet, setUpCells}
+use Rattle.rules.specs.Written.{printed, aLine, writtenSetUp, writtenMove, writtenWait}
+use Rattle.rules.specs.Reading.{Result, refused, got, Spot, Reading, go, give, within, cellOf, Node, nodeHere, nodeLine, inTurn, readMove, readWait, ended, setDown, readSetUp, readTree, planted, readBody, headed, readSheetUpTo, readSheet}
+use Rattle.rules.specs.Unread.{IsLine, of-move, of-first, of-dash, of-wait, Due, dueAfter, Nameable, NoSetUp, cellOn, SetUp, after-header, after-stone, Begins, after-set-up, after-line, Unread, no-header, no-line, off-board, stone-off, stone-twice, one-too-many, too-deep, text-ends, text-remains}
 use Rattle.rules.specs.Plain.{Spells}
 use Rattle.rules.specs.declared.Board.{Board}
 use Rattle.rules.specs.declared.LineKind.{LineKind}
@@ -26,7 +28,8 @@ use Rattle.rules.specs.declared.Verdict.{Verdict}
 use Rattle.rules.specs.declared.Verdict.the-variants.{BadHeader, BadLine, OffBoard, TooManyNodes, TooDeep, Unfinished, TextAfter}
 use Rattle.rules.proofs.Lists.{nothing-in, not-nil}
 use Rattle.rules.proofs.Steps.{none≢some, some-inj, not-refused, got-inj}
-use Rattle.rules.proofs.Lines.{header-is, header-back, LineRead, line-is, line-back}
+use Rattle.rules.proofs.Lines.{header-is, header-back, set-up-is, set-up-back, LineRead, line-is, line-back}
+use Rattle.rules.proofs.SetUp.{stoneOf, down, down-off, down-twice, Downed, is-down, is-off, is-twice, downed, set-up-refused, set-up-got, set-up-none, longer-set-up}
 use Rattle.rules.proofs.NodeLine.{LineBegins, LineSeen, sees-end, sees-many, sees-bad, sees-deep, sees-off, sees-line, seen-is, line-seen}
 use Rattle.rules.proofs.Reading.{node-read}
 use Rattle.rules.proofs.Written.{reads-exactly}
@@ -140,21 +143,24 @@ verdictOf (got s) = none
 abbrev start : List Due
 start = record { kind = K.First; depth = 1 } ∷ []
 
-abbrev spot : Bytes → ℕ → Spot
-spot t n = record { text = t; line = n + 2; nodes = n }
+abbrev spot : (first : ℕ) → Bytes → ℕ → Spot
+spot first t n = record { text = t; line = n + first; nodes = n }
 
-ended-runs : (h : Header) (s : Spot) (q : Result (Move × Spot)) → Follows (h .board) start s [] q → Runs (h .board) start s (verdictOf (ended h q))
+ended-runs : (h : Header) (cs : List Stone) (s : Spot) (q : Result (Move × Spot)) → Follows (h .board) start s [] q → Runs (h .board) start s (verdictOf (ended h cs q))
 unfolding ended verdictOf
-ended-runs h s _ (stops v r) = r
-ended-runs h s _ (goes x f) = by-text (x .1 .text) refl
+ended-runs h cs s _ (stops v r) = r
+ended-runs h cs s _ (goes x f) = by-text (x .1 .text) refl
   where
-    by-text : (t : Bytes) → x .1 .text ≡ t → Runs (h .board) start s (verdictOf (ended h (got x)))
+    by-text : (t : Bytes) → x .1 .text ≡ t → Runs (h .board) start s (verdictOf (ended h cs (got x)))
     by-text [] e = rw (e, ended) (f none (finishes (x .1) e))
     by-text (c ∷ t) e = rw (e, ended) (f (some (TextAfter (x .1 .line))) (remains (x .1) c t e))
 
-body-runs : (h : Header) (t : Bytes) → Runs (h .board) start (spot t 0) (verdictOf (readBody h t))
-unfolding readBody levelsAt
-body-runs h t = ended-runs h (spot t 0) _ (move-follows (h .board) mostDepth K.First 1 refl refl (spot t 0) [])
+tree-runs : (h : Header) (cs : List Stone) (t : Bytes) → Runs (h .board) start (spot (length cs + 2) t 0) (verdictOf (readTree h cs t))
+unfolding readTree levelsAt
+tree-runs h cs t =
+    let here : length cs + 2 ≡ 0 + (length cs + 2) = omega arith in
+    subst (λ (i : ℕ). Runs (h .board) start (record { text = t; line = i; nodes = 0 }) (verdictOf (readTree h cs t))) here
+    (ended-runs h cs (record { text = t; line = length cs + 2; nodes = 0 }) _ (move-follows (h .board) mostDepth K.First 1 refl refl _ []))
 
 -- What a run comes to is said in plain words
 below-most : (n : ℕ) → n ≤ mostNodes → n ≢ mostNodes → n < mostNodes
@@ -171,41 +177,41 @@ due-in d e zero ds i = inr i
 due-in d _ (suc n) ds at-head = inl refl
 due-in d e (suc n) ds (in-tail i) = due-in d e n ds i
 
-due-shallow : {t : Bytes} {b : Board} {n : ℕ} {ds : List Due} {left : Bytes} → Begins t b n ds left → (e : Due) → e ∈ ds → e .depth ≤ mostDepth + 1
-due-shallow (after-header p left size q) _ at-head = omega arith
-due-shallow (after-header p left size q) e (in-tail i) = absurd (nothing-in i)
+due-shallow : {t : Bytes} {b : Board} {first n : ℕ} {ds : List Due} {left : Bytes} → Begins t b first n ds left → (e : Due) → e ∈ ds → e .depth ≤ mostDepth + 1
+due-shallow (after-set-up cs left a none-left f) _ at-head = omega arith
+due-shallow (after-set-up cs left a none-left f) e (in-tail i) = absurd (nothing-in i)
 due-shallow (after-line n d ds line left l a i few deep on) e j =
     elim (due-in d e (l .under) ds j) [ inl q ↦ omega (arith, q, deep) | inr k ↦ due-shallow a e (in-tail k) ]
 
-module _ (t : Bytes) (b : Board) (d : Due) (ds : List Due) (s : Spot) (v : Verdict) (begins : Begins t b (s .nodes) (d ∷ ds) (s .text))
-    (at-line : s .line ≡ s .nodes + 2) where
-  told-at : (f : ℕ → Verdict) → _≡_ {A = Result (Node × Spot)} (refused (f (s .line))) (refused v) → Unread t (f (s .nodes + 2)) → Unread t v
+module _ (t : Bytes) (b : Board) (first : ℕ) (d : Due) (ds : List Due) (s : Spot) (v : Verdict) (begins : Begins t b first (s .nodes) (d ∷ ds) (s .text))
+    (at-line : s .line ≡ s .nodes + first) where
+  told-at : (f : ℕ → Verdict) → _≡_ {A = Result (Node × Spot)} (refused (f (s .line))) (refused v) → Unread t (f (s .nodes + first)) → Unread t v
   told-at f e h = subst (Unread t) (ap f (sym at-line) ∙ refused-inj e) h
 
   -- the text as the line that was read and what follows it
-  begins-line : (x : Line × Bytes) (l : LineRead (d .kind) (s .text) x) → Begins t b (s .nodes) (d ∷ ds) (l .line ++ x .1)
-  begins-line x l = subst (Begins t b (s .nodes) (d ∷ ds)) (l .before) begins
+  begins-line : (x : Line × Bytes) (l : LineRead (d .kind) (s .text) x) → Begins t b first (s .nodes) (d ∷ ds) (l .line ++ x .1)
+  begins-line x l = subst (Begins t b first (s .nodes) (d ∷ ds)) (l .before) begins
 
   seen-unread : s .nodes ≤ mostNodes → (q : Result (Node × Spot)) → LineSeen b (readerOf (d .kind)) (levelsAt d) s q → q ≡ refused v → Unread t v
   unfolding levelsAt nodeHere
-  seen-unread few _ (sees-end h) e = told-at Unfinished e (text-ends b (s .nodes) d ds (subst (Begins t b (s .nodes) (d ∷ ds)) h begins))
+  seen-unread few _ (sees-end h) e = told-at Unfinished e (text-ends b first (s .nodes) d ds (subst (Begins t b first (s .nodes) (d ∷ ds)) h begins))
   seen-unread few _ (sees-many some-text full) e =
       told-at TooManyNodes e
-      (subst⁻¹ (λ (n : ℕ). Unread t (TooManyNodes (n + 2))) full
-      (one-too-many b d ds (s .text) (subst (λ (n : ℕ). Begins t b n (d ∷ ds) (s .text)) full begins) some-text))
+      (subst⁻¹ (λ (n : ℕ). Unread t (TooManyNodes (n + first))) full
+      (one-too-many b first d ds (s .text) (subst (λ (n : ℕ). Begins t b first n (d ∷ ds) (s .text)) full begins) some-text))
   seen-unread few _ (sees-bad h r) e =
       told-at BadLine e
-      (no-line b (s .nodes) d ds (s .text) begins (h .some-text) (below-most (s .nodes) few (h .not-full))
+      (no-line b first (s .nodes) d ds (s .text) begins (h .some-text) (below-most (s .nodes) few (h .not-full))
       (λ line after l i q. none≢some (sym r ∙ ap (readerOf (d .kind)) q ∙ line-back (d .kind) line l after i)))
   seen-unread few _ (sees-deep h x r z) e =
       let l = line-is (d .kind) (s .text) x r in
       told-at TooDeep e
-      (too-deep b (s .nodes) d ds (l .line) (x .1) (x .0) (begins-line x l) (l .is-line) (below-most (s .nodes) few (h .not-full))
+      (too-deep b first (s .nodes) d ds (l .line) (x .1) (x .0) (begins-line x l) (l .is-line) (below-most (s .nodes) few (h .not-full))
       (omega (arith, z, due-shallow begins d at-head)))
   seen-unread few _ (sees-off h x r z w) e =
       let l = line-is (d .kind) (s .text) x r in
       told-at OffBoard e
-      (off-board b (s .nodes) d ds (l .line) (x .1) (x .0) (begins-line x l) (l .is-line) (below-most (s .nodes) few (h .not-full)) (level z) w)
+      (off-board b first (s .nodes) d ds (l .line) (x .1) (x .0) (begins-line x l) (l .is-line) (below-most (s .nodes) few (h .not-full)) (level z) w)
     where
       level : suc mostDepth - d .depth ≢ 0 → d .depth ≤ mostDepth
       level z = ⊎-elim (λ k. absurd (z k)) (λ k. omega arith) (eq-zero-or-pos (suc mostDepth - d .depth))
@@ -214,27 +220,27 @@ module _ (t : Bytes) (b : Board) (d : Due) (ds : List Due) (s : Spot) (v : Verdi
   node-unread : s .nodes ≤ mostNodes → nextLine b d s ≡ refused v → Unread t v
   node-unread few e = seen-unread few _ (line-seen b (readerOf (d .kind)) (levelsAt d) s) e
 
-data Ends (t : Bytes) (b : Board) : Option Verdict → Type 0 where
-  as-read : (n : ℕ) → Begins t b n [] [] → Ends t b none
-  as-refused : (v : Verdict) → Unread t v → Ends t b (some v)
+data Ends (t : Bytes) (b : Board) (first : ℕ) : Option Verdict → Type 0 where
+  as-read : (n : ℕ) → Begins t b first n [] [] → Ends t b first none
+  as-refused : (v : Verdict) → Unread t v → Ends t b first (some v)
 
-begins-at : {t u left : Bytes} {b : Board} {m n j k : ℕ} (d : Due) (ds : List Due) → Begins t b n (dueAfter d k ds) left → m ≡ n → j ≡ k → u ≡ left
-    → Begins t b m (dueAfter d j ds) u
+begins-at : {t u left : Bytes} {b : Board} {first m n j k : ℕ} (d : Due) (ds : List Due) → Begins t b first n (dueAfter d k ds) left → m ≡ n → j ≡ k → u ≡ left
+    → Begins t b first m (dueAfter d j ds) u
 begins-at d ds a e f g = rw (e, f, g) a
 
-run-ends : (t : Bytes) (b : Board) {ds : List Due} {s : Spot} {r : Option Verdict} → Runs b ds s r → Begins t b (s .nodes) ds (s .text)
-    → s .line ≡ s .nodes + 2 → s .nodes ≤ mostNodes → Ends t b r
+run-ends : (t : Bytes) (b : Board) (first : ℕ) {ds : List Due} {s : Spot} {r : Option Verdict} → Runs b ds s r → Begins t b first (s .nodes) ds (s .text)
+    → s .line ≡ s .nodes + first → s .nodes ≤ mostNodes → Ends t b first r
 unfolding levelsAt
-run-ends t b (finishes s e) a l few = as-read (s .nodes) (subst (Begins t b (s .nodes) []) e a)
-run-ends t b (remains s c u e) a l few =
-    as-refused _ (subst⁻¹ (λ (i : ℕ). Unread t (TextAfter i)) l (text-remains b (s .nodes) (s .text) a (not-nil e)))
-run-ends t b (refuses d ds s v e) a l few = as-refused v (node-unread t b d ds s v a l few e)
-run-ends t b (passes d ds s n u r e q) a l few =
+run-ends t b first (finishes s e) a l few = as-read (s .nodes) (subst (Begins t b first (s .nodes) []) e a)
+run-ends t b first (remains s c u e) a l few =
+    as-refused _ (subst⁻¹ (λ (i : ℕ). Unread t (TextAfter i)) l (text-remains b first (s .nodes) (s .text) a (not-nil e)))
+run-ends t b first (refuses d ds s v e) a l few = as-refused v (node-unread t b first d ds s v a l few e)
+run-ends t b first (passes d ds s n u r e q) a l few =
     let i = node-read b (readerOf (d .kind)) (levelsAt d) s (n, u) e in
     let line = line-is (d .kind) (s .text) (i .line-read) (i .by-reader) in
     let fewer = below-most (s .nodes) few (i .not-full) in
-    let next = after-line (s .nodes) d ds (line .line) (i .line-read .1) (i .line-read .0) (subst (Begins t b (s .nodes) (d ∷ ds)) (line .before) a) (line .is-line) fewer (omega (arith, i .level-left)) (i .inside) in
-    run-ends t b q (begins-at d ds next (i .nodes-after) (i .its-under) (i .text-after)) (omega (arith, l, i .line-after, i .nodes-after)) (omega (arith, fewer, i .nodes-after))
+    let next = after-line (s .nodes) d ds (line .line) (i .line-read .1) (i .line-read .0) (subst (Begins t b first (s .nodes) (d ∷ ds)) (line .before) a) (line .is-line) fewer (omega (arith, i .level-left)) (i .inside) in
+    run-ends t b first q (begins-at d ds next (i .nodes-after) (i .its-under) (i .text-after)) (omega (arith, l, i .line-after, i .nodes-after)) (omega (arith, fewer, i .nodes-after))
 
 -- What is said in plain words is what a run comes to
 line-not-nil : {k : LineKind} {line : Bytes} {l : Line} (after : Bytes) → IsLine k line l → (line ++ after) ≢ []
@@ -244,16 +250,16 @@ line-not-nil after (of-first p n h f) = not-nil refl
 line-not-nil after (of-dash n f) = not-nil refl
 line-not-nil after (of-wait n low f) = not-nil refl
 
-module _ (b : Board) (d : Due) (n : ℕ) where
+module _ (b : Board) (first : ℕ) (d : Due) (n : ℕ) where
   -- what the next line is seen to be, it comes to
-  next-is : (left : Bytes) (q : Result (Node × Spot)) → LineSeen b (readerOf (d .kind)) (levelsAt d) (spot left n) q → nextLine b d (spot left n) ≡ q
-  next-is left q h = seen-is b (readerOf (d .kind)) (levelsAt d) (spot left n) q h
+  next-is : (left : Bytes) (q : Result (Node × Spot)) → LineSeen b (readerOf (d .kind)) (levelsAt d) (spot first left n) q → nextLine b d (spot first left n) ≡ q
+  next-is left q h = seen-is b (readerOf (d .kind)) (levelsAt d) (spot first left n) q h
 
-  may-begin : (left : Bytes) → left ≢ [] → n < mostNodes → LineBegins (spot left n)
+  may-begin : (left : Bytes) → left ≢ [] → n < mostNodes → LineBegins (spot first left n)
   may-begin left h few = record { some-text = h; not-full = λ q. omega arith }
 
   module _ (line after : Bytes) (l : Line) (i : IsLine (d .kind) line l) (few : n < mostNodes) where
-    begins-here : LineBegins (spot (line ++ after) n)
+    begins-here : LineBegins (spot first (line ++ after) n)
     begins-here = may-begin (line ++ after) (line-not-nil after i) few
 
     read-here : readerOf (d .kind) (line ++ after) ≡ some (l, after)
@@ -263,34 +269,107 @@ module _ (b : Board) (d : Due) (n : ℕ) where
     unfolding levelsAt
     level-here deep z = omega arith
 
-    node-deep : d .depth ≡ mostDepth + 1 → nextLine b d (spot (line ++ after) n) ≡ refused (TooDeep (n + 2))
+    node-deep : d .depth ≡ mostDepth + 1 → nextLine b d (spot first (line ++ after) n) ≡ refused (TooDeep (n + first))
     unfolding levelsAt
     node-deep low = next-is (line ++ after) _ (sees-deep begins-here (l, after) read-here (omega arith))
 
-    node-off : d .depth ≤ mostDepth → (T (within b (l .place)) → ⊥) → nextLine b d (spot (line ++ after) n) ≡ refused (OffBoard (n + 2))
+    node-off : d .depth ≤ mostDepth → (T (within b (l .place)) → ⊥) → nextLine b d (spot first (line ++ after) n) ≡ refused (OffBoard (n + first))
     node-off low outside = next-is (line ++ after) _ (sees-off begins-here (l, after) read-here (level-here low) outside)
 
-    node-passes : d .depth ≤ mostDepth → T (within b (l .place)) → (ds : List Due) (r : Option Verdict) → Runs b (dueAfter d (l .under) ds) (spot after (n + 1)) r
-        → Runs b (d ∷ ds) (spot (line ++ after) n) r
+    node-passes : d .depth ≤ mostDepth → T (within b (l .place)) → (ds : List Due) (r : Option Verdict) → Runs b (dueAfter d (l .under) ds) (spot first after (n + 1)) r
+        → Runs b (d ∷ ds) (spot first (line ++ after) n) r
     unfolding nodeHere
     node-passes low on ds r q =
-        let next : n + 1 + 2 ≡ n + 2 + 1 = omega arith in
-        passes d ds (spot (line ++ after) n) (record { line = n + 2; cell = cellOf b (l .place); under = l .under })
-        (record { text = after; line = n + 2 + 1; nodes = n + 1 }) r
+        let next : n + 1 + first ≡ n + first + 1 = omega arith in
+        passes d ds (spot first (line ++ after) n) (record { line = n + first; cell = cellOf b (l .place); under = l .under })
+        (record { text = after; line = n + first + 1; nodes = n + 1 }) r
         (next-is (line ++ after) _ (sees-line begins-here (l, after) read-here (level-here low) on))
         (subst (λ (j : ℕ). Runs b (dueAfter d (l .under) ds) (record { text = after; line = j; nodes = n + 1 }) r) next q)
 
-record Begun (t : Bytes) (b : Board) (n : ℕ) (ds : List Due) (left : Bytes) : Type 0 where
+-- the set-up lines: where they begin the text, the reading comes to what is left, with as many lines at most as it has bytes
+record SetUpBegun (t : Bytes) (b : Board) (cs : List Stone) (left : Bytes) : Type 0 where
   player : Player
   body : Bytes
   header : headerLine t ≡ some (record { board = b; player = player }, body)
-  onward : (r : Option Verdict) → Runs b ds (spot left n) r → Runs b start (spot body 0) r
+  most : ℕ
+  enough : length left ≤ most
+  same : readSetUp (length body) b [] body ≡ readSetUp most b cs left
 
-begun : {t : Bytes} {b : Board} {n : ℕ} {ds : List Due} {left : Bytes} → Begins t b n ds left → Begun t b n ds left
-begun {b = b} (after-header p left size e) = record { player = p; body = left; header = ap headerLine e ∙ header-back b p left size; onward = λ r q. q }
-begun {b = b} (after-line n d ds line left l a i few deep on) =
+one-down : (most : ℕ) (b : Board) (cs : List Stone) (o : Side) (p : Place) (left : Bytes) → Nameable p → T (onBoard b (p .column) (p .row))
+    → T (not (among (setUpCells cs) (cellOn b p))) → length (writtenSetUp o (some p) ++ left) ≤ most
+    → (k : ℕ) × (length left ≤ k) × (readSetUp most b cs (writtenSetUp o (some p) ++ left) ≡ readSetUp k b (cs ++ stoneOf b o p ∷ []) left)
+one-down zero b cs o p left h on new few = absurd (omega (arith, few, longer-set-up o (some p) left))
+one-down (suc most) b cs o p left h on new few = (
+  most,
+  omega (arith, few, longer-set-up o (some p) left),
+  set-up-got most b cs _ (record { side = o; place = p }, left) (set-up-back o p left h) (stoneOf b o p) (down b (setUpCells cs) (length cs + 2) (record { side = o; place = p }) on new),
+)
+
+set-up-begun : {t : Bytes} {b : Board} {cs : List Stone} {left : Bytes} → SetUp t b cs left → SetUpBegun t b cs left
+set-up-begun {b = b} (after-header p left size e) =
+    record { player = p; body = left; header = ap headerLine e ∙ header-back b p left size; most = length left; enough = omega arith; same = refl }
+set-up-begun {b = b} (after-stone cs o p left a h on new) =
+    let g = set-up-begun a in
+    let (k, few, e) = one-down (g .most) b cs o p left h on new (g .enough) in
+    record { player = g .player; body = g .body; header = g .header; most = k; enough = few; same = g .same ∙ e }
+
+-- a set-up line that is refused
+stone-refused : (t : Bytes) (b : Board) (cs : List Stone) (o : Side) (p : Place) (after : Bytes) (v : Verdict) → SetUp t b cs (writtenSetUp o (some p) ++ after) → Nameable p
+    → setDown b (setUpCells cs) (length cs + 2) (record { side = o; place = p }) ≡ refused v → readSheet t ≡ refused v
+unfolding readSheetUpTo headed readBody planted
+stone-refused t b cs o p after v a h e =
+    let g = set-up-begun a in
+    let header : Header = record { board = b; player = g .player } in
+    ap headed (g .header) ∙ ap (planted header) (g .same ∙ by-most (g .most) (g .enough))
+  where
+    by-most : (most : ℕ) → length (writtenSetUp o (some p) ++ after) ≤ most → readSetUp most b cs (writtenSetUp o (some p) ++ after) ≡ refused v
+    by-most zero few = absurd (omega (arith, few, longer-set-up o (some p) after))
+    by-most (suc most) few = set-up-refused most b cs _ (record { side = o; place = p }, after) (set-up-back o p after h) v e
+
+-- no set-up line, in plain words and by the reader
+pub no-line-read : (left : Bytes) → NoSetUp left → setUpLine left ≡ none
+unfolding NoSetUp
+no-line-read left h = by-line (setUpLine left) refl
+  where
+    by-line : (o : Option (SetUpLine × Bytes)) → setUpLine left ≡ o → o ≡ none
+    by-line none e = refl
+    by-line (some y) e = let r = set-up-is left y e in absurd (h (y .0 .side) (y .0 .place) (y .1) (r .1) (r .0))
+
+pub read-no-line : (left : Bytes) → setUpLine left ≡ none → NoSetUp left
+unfolding NoSetUp
+read-no-line left e o p after h q = none≢some (sym e ∙ ap setUpLine q ∙ set-up-back o p after h)
+
+record Begun (t : Bytes) (b : Board) (first n : ℕ) (ds : List Due) (left : Bytes) : Type 0 where
+  player : Player
+  stones : List Stone
+  its-first : first ≡ length stones + 2
+  body : Bytes
+  reads : readSheet t ≡ readTree (record { board = b; player = player }) stones body
+  onward : (r : Option Verdict) → Runs b ds (spot first left n) r → Runs b start (spot first body 0) r
+
+begun : {t : Bytes} {b : Board} {first n : ℕ} {ds : List Due} {left : Bytes} → Begins t b first n ds left → Begun t b first n ds left
+unfolding readSheetUpTo headed readBody planted
+begun {b = b} (after-set-up cs left a no-more f) =
+    let g = set-up-begun a in
+    let header : Header = record { board = b; player = g .player } in
+    record {
+      player = g .player;
+      stones = cs;
+      its-first = f;
+      body = left;
+      reads = ap headed (g .header) ∙ ap (planted header) (g .same ∙ set-up-none (g .most) b cs left (no-line-read left no-more));
+      onward = λ r q. q;
+    }
+begun {b = b} {first = first} (after-line n d ds line left l a i few deep on) =
     let g = begun a in
-    record { player = g .player; body = g .body; header = g .header; onward = λ r q. g .onward r (node-passes b d n line left l i few deep on ds r q) }
+    record {
+      player = g .player;
+      stones = g .stones;
+      its-first = g .its-first;
+      body = g .body;
+      reads = g .reads;
+      onward = λ r q. g .onward r (node-passes b first d n line left l i few deep on ds r q);
+    }
 
 refused-of : (q : Result Sheet) (v : Verdict) → verdictOf q ≡ some v → q ≡ refused v
 unfolding verdictOf
@@ -303,22 +382,22 @@ got-of (refused w) e = absurd (none≢some (sym e))
 got-of (got s) e = (s, refl)
 
 -- where a run from a beginning comes to something, the reading does
-begun-verdict : (t : Bytes) (b : Board) (n : ℕ) (ds : List Due) (left : Bytes) → Begins t b n ds left → (r : Option Verdict) → Runs b ds (spot left n) r
+begun-verdict : (t : Bytes) (b : Board) (first n : ℕ) (ds : List Due) (left : Bytes) → Begins t b first n ds left → (r : Option Verdict) → Runs b ds (spot first left n) r
     → verdictOf (readSheet t) ≡ r
-unfolding readSheetUpTo headed
-begun-verdict t b n ds left a r q =
+begun-verdict t b first n ds left a r q =
     let g = begun a in
     let h : Header = record { board = b; player = g .player } in
-    ap (λ (o : Option (Header × Bytes)). verdictOf (headed o)) (g .header) ∙ runs-one b (body-runs h (g .body)) (g .onward r q)
+    ap verdictOf (g .reads)
+    ∙ runs-one b (subst⁻¹ (λ (i : ℕ). Runs b start (spot i (g .body) 0) (verdictOf (readTree h (g .stones) (g .body)))) (g .its-first) (tree-runs h (g .stones) (g .body))) (g .onward r q)
 
 -- a line that is refused, and text that remains
-line-refused : {t : Bytes} {b : Board} {n : ℕ} {d : Due} {ds : List Due} {left : Bytes} {v : Verdict} → Begins t b n (d ∷ ds) left
-    → nextLine b d (spot left n) ≡ refused v → readSheet t ≡ refused v
-line-refused {t} {b} {n} {d} {ds} {left} {v} a e = refused-of (readSheet t) v (begun-verdict t b n (d ∷ ds) left a (some v) (refuses d ds (spot left n) v e))
+line-refused : {t : Bytes} {b : Board} {first n : ℕ} {d : Due} {ds : List Due} {left : Bytes} {v : Verdict} → Begins t b first n (d ∷ ds) left
+    → nextLine b d (spot first left n) ≡ refused v → readSheet t ≡ refused v
+line-refused {t} {b} {first} {n} {d} {ds} {left} {v} a e = refused-of (readSheet t) v (begun-verdict t b first n (d ∷ ds) left a (some v) (refuses d ds (spot first left n) v e))
 
-rest-refused : (t : Bytes) (b : Board) (n : ℕ) (left : Bytes) → Begins t b n [] left → left ≢ [] → readSheet t ≡ refused (TextAfter (n + 2))
-rest-refused t b n [] a h = absurd (h refl)
-rest-refused t b n (c ∷ u) a h = refused-of (readSheet t) _ (begun-verdict t b n [] (c ∷ u) a _ (remains (spot (c ∷ u) n) c u refl))
+rest-refused : (t : Bytes) (b : Board) (first n : ℕ) (left : Bytes) → Begins t b first n [] left → left ≢ [] → readSheet t ≡ refused (TextAfter (n + first))
+rest-refused t b first n [] a h = absurd (h refl)
+rest-refused t b first n (c ∷ u) a h = refused-of (readSheet t) _ (begun-verdict t b first n [] (c ∷ u) a _ (remains (spot first (c ∷ u) n) c u refl))
 
 none-read : (k : LineKind) (left : Bytes) → ((line after : Bytes) (l : Line) → IsLine k line l → left ≢ (line ++ after)) → readerOf k left ≡ none
 none-read k left h = go (readerOf k left) refl
@@ -333,26 +412,88 @@ unread-refused t _ (no-header h) = by-header (headerLine t) refl
     by-header : (o : Option (Header × Bytes)) → headerLine t ≡ o → readSheet t ≡ refused BadHeader
     by-header none e = unfold readSheetUpTo headed in rw e
     by-header (some y) e = let k = header-is t y e in absurd (h (y .0 .board) (y .0 .player) (y .1) (k .1) (k .0))
-unread-refused t _ (no-line b n d ds left a some-text few h) =
-    line-refused a (next-is b d n left _ (sees-bad (may-begin b d n left some-text few) (none-read (d .kind) left h)))
-unread-refused t _ (off-board b n d ds line after l a i few deep off) = line-refused a (node-off b d n line after l i few deep off)
-unread-refused t _ (one-too-many b d ds left a some-text) = line-refused a (next-is b d mostNodes left _ (sees-many some-text refl))
-unread-refused t _ (too-deep b n d ds line after l a i few deep) = line-refused a (node-deep b d n line after l i few deep)
-unread-refused t _ (text-ends b n d ds a) = line-refused a (next-is b d n [] _ (sees-end refl))
-unread-refused t _ (text-remains b n left a some-text) = rest-refused t b n left a some-text
+unread-refused t _ (no-line b first n d ds left a some-text few h) =
+    line-refused a (next-is b first d n left _ (sees-bad (may-begin b first d n left some-text few) (none-read (d .kind) left h)))
+unread-refused t _ (off-board b first n d ds line after l a i few deep off) = line-refused a (node-off b first d n line after l i few deep off)
+unread-refused t _ (one-too-many b first d ds left a some-text) = line-refused a (next-is b first d mostNodes left _ (sees-many some-text refl))
+unread-refused t _ (too-deep b first n d ds line after l a i few deep) = line-refused a (node-deep b first d n line after l i few deep)
+unread-refused t _ (text-ends b first n d ds a) = line-refused a (next-is b first d n [] _ (sees-end refl))
+unread-refused t _ (text-remains b first n left a some-text) = rest-refused t b first n left a some-text
+unread-refused t _ (stone-off b cs o p after a h off) = stone-refused t b cs o p after _ a h (down-off b (setUpCells cs) (length cs + 2) (record { side = o; place = p }) off)
+unread-refused t _ (stone-twice b cs o p after a h on old) = stone-refused t b cs o p after _ a h (down-twice b (setUpCells cs) (length cs + 2) (record { side = o; place = p }) on old)
+
+-- 4 of set-up lines: where the next line begins with `o`, as `own` and `opp` do, and is no set-up line, it is refused as malformed
+first-starts : {line : Bytes} {l : Line} (after : Bytes) → IsLine K.First line l → (u : Bytes) × (line ++ after ≡ 109 ∷ u)
+unfolding writtenMove aLine printed
+first-starts after (of-first p n h f) = (_, refl)
+first-starts after (of-dash n f) = (_, refl)
+
+pub set-up-malformed : (t : Bytes) (b : Board) (cs : List Stone) (left : Bytes) → SetUp t b cs (111 ∷ left) → NoSetUp (111 ∷ left) → readSheet t ≡ refused (BadLine (length cs + 2))
+set-up-malformed t b cs left a h =
+    let here : 0 + (length cs + 2) ≡ length cs + 2 = omega arith in
+    subst (λ (i : ℕ). readSheet t ≡ refused (BadLine i)) here
+    (unread-refused t _ (no-line b (length cs + 2) 0 (record { kind = K.First; depth = 1 }) [] (111 ∷ left) (after-set-up cs (111 ∷ left) a h refl) (not-nil refl) (omega arith)
+    (λ line after l i e.
+    let starts = first-starts after i in
+    let same : 111 ∷ left ≡ 109 ∷ starts .0 = e ∙ starts .1 in
+    let z : _≡_ {A = ℕ} 111 109 = cc same in
+    omega arith)))
+
+-- what the set-up lines come to
+data StonesEnd (t : Bytes) (b : Board) : Result (List Stone × Bytes) → Type 0 where
+  stones-refused : (v : Verdict) → Unread t v → StonesEnd t b (refused v)
+  stones-set : (cs : List Stone) (left : Bytes) → SetUp t b cs left → NoSetUp left → StonesEnd t b (got (cs, left))
+
+stones-end : (t : Bytes) (b : Board) (most : ℕ) (cs : List Stone) (u : Bytes) → SetUp t b cs u → length u ≤ most → StonesEnd t b (readSetUp most b cs u)
+unfolding NoSetUp
+stones-end t b zero cs u a few = rw (set-up-none zero b cs u (no-line-read u none-left)) (stones-set cs u a none-left)
+  where
+    none-left : NoSetUp u
+    none-left o p after h e = omega (arith, few, ap length e, longer-set-up o (some p) after)
+stones-end t b (suc most) cs u a few = by-line (setUpLine u) refl (λ ds v k l. stones-end t b most ds v k l)
+  where
+    by-down : (x : SetUpLine × Bytes) → setUpLine u ≡ some x → (r : Result Stone) → setDown b (setUpCells cs) (length cs + 2) (x .0) ≡ r
+        → Downed b (setUpCells cs) (length cs + 2) (x .0) r
+        → ((ds : List Stone) (v : Bytes) → SetUp t b ds v → length v ≤ most → StonesEnd t b (readSetUp most b ds v)) → StonesEnd t b (readSetUp (suc most) b cs u)
+    by-down x f _ g (is-down on new) ih =
+        let k = set-up-is u x f in
+        rw (set-up-got most b cs u x f _ g)
+        (ih _ (x .1) (after-stone cs (x .0 .side) (x .0 .place) (x .1) (subst (SetUp t b cs) (k .0) a) (k .1) on new)
+        (omega (arith, few, ap length (k .0), longer-set-up (x .0 .side) (some (x .0 .place)) (x .1))))
+    by-down x f _ g (is-off off) ih =
+        let k = set-up-is u x f in
+        rw (set-up-refused most b cs u x f _ g) (stones-refused _ (stone-off b cs (x .0 .side) (x .0 .place) (x .1) (subst (SetUp t b cs) (k .0) a) (k .1) off))
+    by-down x f _ g (is-twice on old) ih =
+        let k = set-up-is u x f in
+        rw (set-up-refused most b cs u x f _ g) (stones-refused _ (stone-twice b cs (x .0 .side) (x .0 .place) (x .1) (subst (SetUp t b cs) (k .0) a) (k .1) on old))
+
+    by-line : (o : Option (SetUpLine × Bytes)) → setUpLine u ≡ o
+        → ((ds : List Stone) (v : Bytes) → SetUp t b ds v → length v ≤ most → StonesEnd t b (readSetUp most b ds v)) → StonesEnd t b (readSetUp (suc most) b cs u)
+    by-line none f ih = rw (set-up-none (suc most) b cs u f) (stones-set cs u a (read-no-line u f))
+    by-line (some x) f ih = by-down x f (setDown b (setUpCells cs) (length cs + 2) (x .0)) refl (downed b (setUpCells cs) (length cs + 2) (x .0)) ih
 
 -- what a text comes to, after its header
-ends-of : (t : Bytes) (y : Header × Bytes) → headerLine t ≡ some y → Ends t (y .0 .board) (verdictOf (readSheet t))
-unfolding readSheetUpTo headed
+abbrev EndsSome : Bytes → Board → Option Verdict → Type 0
+EndsSome t b r = (first : ℕ) × Ends t b first r
+
+planted-ends : (t : Bytes) (h : Header) (r : Result (List Stone × Bytes)) → StonesEnd t (h .board) r → EndsSome t (h .board) (verdictOf (planted h r))
+unfolding planted verdictOf
+planted-ends t h _ (stones-refused v u) = (0, as-refused v u)
+planted-ends t h _ (stones-set cs left a no-more) =
+    (length cs + 2, run-ends t (h .board) (length cs + 2) (tree-runs h cs left) (after-set-up cs left a no-more refl) (omega arith) (omega arith))
+
+ends-of : (t : Bytes) (y : Header × Bytes) → headerLine t ≡ some y → EndsSome t (y .0 .board) (verdictOf (readSheet t))
+unfolding readSheetUpTo headed readBody
 ends-of t y e =
     let k = header-is t y e in
-    rw e (run-ends t (y .0 .board) (body-runs (y .0) (y .1)) (after-header (y .0 .player) (y .1) (k .1) (k .0)) refl (omega arith))
+    rw e
+    (planted-ends t (y .0) _ (stones-end t (y .0 .board) (length (y .1)) [] (y .1) (after-header (y .0 .player) (y .1) (k .1) (k .0)) (omega arith)))
 
-ended-refused : {t : Bytes} {b : Board} {r : Option Verdict} {v : Verdict} → Ends t b r → r ≡ some v → Unread t v
+ended-refused : {t : Bytes} {b : Board} {first : ℕ} {r : Option Verdict} {v : Verdict} → Ends t b first r → r ≡ some v → Unread t v
 ended-refused (as-read n a) e = absurd (none≢some e)
 ended-refused {t} (as-refused w h) e = subst (Unread t) (some-inj e) h
 
-ended-read : {t : Bytes} {b : Board} {r : Option Verdict} → Ends t b r → r ≡ none → (n : ℕ) × Begins t b n [] []
+ended-read : {t : Bytes} {b : Board} {first : ℕ} {r : Option Verdict} → Ends t b first r → r ≡ none → (n : ℕ) × Begins t b first n [] []
 ended-read (as-read n a) e = (n, a)
 ended-read (as-refused w h) e = absurd (none≢some (sym e))
 
@@ -364,35 +505,36 @@ refused-unread t v e = by-header (headerLine t) refl
     by-header none f =
         let g : _≡_ {A = Result Sheet} (refused BadHeader) (refused v) = unfold readSheetUpTo headed in sym (ap headed f) ∙ e in
         subst (Unread t) (refused-inj g) (no-header (λ b p left size h. none≢some (sym f ∙ ap headerLine h ∙ header-back b p left size)))
-    by-header (some y) f = unfold verdictOf in ended-refused (ends-of t y f) (ap verdictOf e)
+    by-header (some y) f = unfold verdictOf in ended-refused (ends-of t y f .1) (ap verdictOf e)
 
--- a text is refused with v exactly when the table says so of 3 to 9
+-- a text is refused with v exactly when the table says so of 3 to 9 and 19
 pub refused-exactly : (t : Bytes) (v : Verdict) → (readSheet t ≡ refused v) ↔ Unread t v
 refused-exactly t v = (refused-unread t v, unread-refused t v)
 
 -- and it is a sheet's exactly when it begins as one and then no node is due and no text is left
-sheet-begins : (t : Bytes) (s : Sheet) → Spells t s → (b : Board) × (n : ℕ) × Begins t b n [] []
+sheet-begins : (t : Bytes) (s : Sheet) → Spells t s → (b : Board) × (first : ℕ) × (n : ℕ) × Begins t b first n [] []
 sheet-begins t s h = by-header (headerLine t) refl
   where
     reads : readSheet t ≡ got s
     reads = reads-exactly t s .1 h
 
-    by-header : (o : Option (Header × Bytes)) → headerLine t ≡ o → (b : Board) × (n : ℕ) × Begins t b n [] []
+    by-header : (o : Option (Header × Bytes)) → headerLine t ≡ o → (b : Board) × (first : ℕ) × (n : ℕ) × Begins t b first n [] []
     by-header none f =
         let g : _≡_ {A = Result Sheet} (refused BadHeader) (got s) = unfold readSheetUpTo headed in sym (ap headed f) ∙ reads in
         absurd (not-refused g)
     by-header (some y) f =
         let none-told : verdictOf (readSheet t) ≡ none = unfold verdictOf in ap verdictOf reads in
-        let (n, a) = ended-read (ends-of t y f) none-told in
-        (y .0 .board, n, a)
+        let (first, ends) = ends-of t y f in
+        let (n, a) = ended-read ends none-told in
+        (y .0 .board, first, n, a)
 
-begins-sheet : (t : Bytes) (b : Board) (n : ℕ) → Begins t b n [] [] → (s : Sheet) × Spells t s
-begins-sheet t b n a =
-    let (s, e) = got-of (readSheet t) (begun-verdict t b n [] [] a none (finishes (spot [] n) refl)) in
+begins-sheet : (t : Bytes) (b : Board) (first n : ℕ) → Begins t b first n [] [] → (s : Sheet) × Spells t s
+begins-sheet t b first n a =
+    let (s, e) = got-of (readSheet t) (begun-verdict t b first n [] [] a none (finishes (spot first [] n) refl)) in
     (s, reads-exactly t s .0 e)
 
-pub finished-exactly : (t : Bytes) → ((s : Sheet) × Spells t s) ↔ ((b : Board) × (n : ℕ) × Begins t b n [] [])
-finished-exactly t = (λ h. sheet-begins t (h .0) (h .1), λ h. begins-sheet t (h .0) (h .1) (h .2))
+pub finished-exactly : (t : Bytes) → ((s : Sheet) × Spells t s) ↔ ((b : Board) × (first : ℕ) × (n : ℕ) × Begins t b first n [] [])
+finished-exactly t = (λ h. sheet-begins t (h .0) (h .1), λ h. begins-sheet t (h .0) (h .1) (h .2) (h .3))
 
 -- one of the two holds of every text, and with one verdict
 pub read-or-unread : (t : Bytes) → ((s : Sheet) × Spells t s) ⊎ ((v : Verdict) × Unread t v)

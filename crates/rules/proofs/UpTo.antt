@@ -2,20 +2,18 @@
 use mathlib.Core.Path.{_≡_, refl, sym, ap, _∙_}
 use Prim.Native.Nat.{ℕ, suc, _≤_}
 use mathlib.Core.Option.{Option, none, some}
-use lib.Dec.{ltb}
-use lib.ListN.{length}
 use native.Mathlib.Omega.{arith}
-use Rattle.rules.specs.Sizes.{largest, mostBytes, leastWorkspace}
+use Rattle.rules.specs.Sizes.{largest}
 use Rattle.rules.specs.Text.{Bytes}
 use Rattle.rules.specs.Lines.{Header, headerUpTo, headerLine}
-use Rattle.rules.specs.Tree.{Sheet}
-use Rattle.rules.specs.Reading.{Result, headed, readSheetUpTo, readSheet}
-use Rattle.rules.specs.Entries.{_>>=_, refuseIf, readTextUpTo, readUpTo, read, acceptedOf, accepted, judged, judge, playOf, play, outcomeOf, outcome}
+use Rattle.rules.specs.Reading.{headed, readSheetUpTo, readSheet}
+use Rattle.rules.specs.Entries.{readTextUpTo, readUpTo}
 use Rattle.rules.specs.Unread.{BoardUpTo, BoardSize}
-use Rattle.rules.specs.UpTo.{NoSizeFrom, SameReplies}
-use Rattle.rules.specs.declared.Verdict.the-variants.{SmallWorkspace, LongText}
+use Rattle.rules.specs.SameReplies.{SameReplies}
+use Rattle.rules.specs.UpTo.{NoSizeFrom}
 use Rattle.rules.proofs.Steps.{none≢some}
 use Rattle.rules.proofs.Lines.{header-is, header-back}
+use Rattle.rules.proofs.SameReplies.{same-replies}
 
 module _ (most : ℕ) (few : most ≤ largest) (t : Bytes) (small : NoSizeFrom (suc most) t) where
   same-header : headerLine t ≡ headerUpTo most t
@@ -36,16 +34,6 @@ module _ (most : ℕ) (few : most ≤ largest) (t : Bytes) (small : NoSizeFrom (
   unfolding readSheetUpTo
   same-sheet = ap headed same-header
 
-  same-read : (w : ℕ) → read w t ≡ readUpTo most w t
+  pub small-same : SameReplies t (λ w. readUpTo most w t)
   unfolding readUpTo readTextUpTo
-  same-read w =
-      ap (λ (r : Result Sheet). refuseIf (ltb w leastWorkspace) SmallWorkspace >>= λ _. refuseIf (ltb mostBytes (length t)) LongText >>= λ _. r) same-sheet
-
-  pub same-replies : SameReplies most t
-  unfolding judge accepted play outcome
-  same-replies =
-      record {
-        to-judge = λ w. ap (λ (r : Result Sheet). judged (acceptedOf r)) (same-read w);
-        to-play = λ w xs room. ap (λ (r : Result Sheet). playOf (acceptedOf r) xs room) (same-read w);
-        to-outcome = λ w i room. ap (λ (r : Result Sheet). outcomeOf r i room) (same-read w);
-      }
+  small-same = same-replies t (readSheetUpTo most t) same-sheet

@@ -12,14 +12,15 @@ use Rattle.rules.specs.Words.{_∈_, at-head, in-tail}
 use Rattle.rules.specs.Board.{isCell}
 use Rattle.rules.specs.Text.{Bytes, _orElse_}
 use Rattle.rules.specs.Lines.{Header, headerLine, moveLine, dashLine}
-use Rattle.rules.specs.Tree.{Waits, noWaits, wait, Moves, noMoves, move, Wait, Move, Sheet, movesOfWaits, movesOfMoves, waitsOfWaits, waitsOfMoves, everyMove, everyWait, moveCount, waitCount}
-use Rattle.rules.specs.Written.{written}
-use Rattle.rules.specs.Reading.{Result, refused, got, Spot, readMove, ended, readBody, headed, readSheetUpTo, readSheet}
+use Rattle.rules.specs.Tree.{Waits, noWaits, wait, Moves, noMoves, move, Wait, Move, Stone, Sheet, movesOfWaits, movesOfMoves, waitsOfWaits, waitsOfMoves, everyMove, everyWait, moveCount, waitCount}
+use Rattle.rules.specs.Written.{writtenStones, written}
+use Rattle.rules.specs.Reading.{Result, refused, got, Spot, readMove, ended, readSetUp, readTree, planted, readBody, headed, readSheetUpTo, readSheet}
 use Rattle.rules.specs.Plain.{linesOfWaits, linesOfMoves, linesOf, upFrom, depthOfWaits, depthOfMoves, WellRead}
 use Rattle.rules.specs.declared.Board.{Board}
 use Rattle.rules.proofs.Lists.{in-both}
 use Rattle.rules.proofs.Steps.{not-refused, got-inj}
 use Rattle.rules.proofs.Lines.{header-is, root-is}
+use Rattle.rules.proofs.SetUp.{Good, StonesRead, stones-read, good-on, good-once}
 use Rattle.rules.proofs.Reading.{nodesInWaits, nodesInMoves, ReadWaits, ReadMoves, MoveRead, move-read, cell-read}
 
 -- waits have a move
@@ -126,37 +127,57 @@ mutual
       (waits-in-order ws b (levels - 1) (from + 1) (r .0 .3))
       (moves-in-order ms b levels (from + 1 + nodesInWaits ws) (r .1))
 
--- of the whole sheet: its header was read, then its root from line 2 on, and no text is left
+-- of the whole sheet: its header was read, then its set-up lines, then its root from the next line on, and no text is left
 record SheetRead (t : Bytes) (s : Sheet) : Type 0 where
   body : Bytes
   header : headerLine t ≡ some (record { board = s .board; player = s .player }, body)
+  tree : Bytes
+  set-up-read : readSetUp (length body) (s .board) [] body ≡ got (s .set-up, tree)
   after : Spot
-  root-read : readMove mostDepth (s .board) (moveLine orElse dashLine) (record { text = body; line = 2; nodes = 0 }) ≡ got (s .root, after)
+  root-read : readMove mostDepth (s .board) (moveLine orElse dashLine) (record { text = tree; line = length (s .set-up) + 2; nodes = 0 }) ≡ got (s .root, after)
   no-more : after .text ≡ []
 
-ended-got : (h : Header) (r : Result (Move × Spot)) (s : Sheet) → ended h r ≡ got s
-    → (h ≡ record { board = s .board; player = s .player }) × (after : Spot) × (r ≡ got (s .root, after)) × (after .text ≡ [])
+record Ended (h : Header) (cs : List Stone) (r : Result (Move × Spot)) (s : Sheet) : Type 0 where
+  header : h ≡ record { board = s .board; player = s .player }
+  stones : cs ≡ s .set-up
+  after : Spot
+  root : r ≡ got (s .root, after)
+  no-more : after .text ≡ []
+
+ended-got : (h : Header) (cs : List Stone) (r : Result (Move × Spot)) (s : Sheet) → ended h cs r ≡ got s → Ended h cs r s
 unfolding ended
-ended-got h (refused v) s e = absurd (not-refused e)
-ended-got h (got x) s e = by-text (x .1 .text) refl
+ended-got h cs (refused v) s e = absurd (not-refused e)
+ended-got h cs (got x) s e = by-text (x .1 .text) refl
   where
-    by-text : (t : Bytes) → x .1 .text ≡ t → (h ≡ record { board = s .board; player = s .player }) × (after : Spot) × (got x ≡ got (s .root, after)) × (after .text ≡ [])
-    by-text [] k =
-        subst (λ (z : Sheet). (h ≡ record { board = z .board; player = z .player }) × (after : Spot) × (got x ≡ got (z .root, after)) × (after .text ≡ []))
-        (got-inj (rw (k, ended) at e)) (refl, x .1, refl, k)
+    by-text : (t : Bytes) → x .1 .text ≡ t → Ended h cs (got x) s
+    by-text [] k = subst (Ended h cs (got x)) (got-inj (rw (k, ended) at e)) (record { header = refl; stones = refl; after = x .1; root = refl; no-more = k })
     by-text (c ∷ t) k = absurd (not-refused (rw (k, ended) at e))
+
+planted-got : (h : Header) (r : Result (List Stone × Bytes)) (s : Sheet) → planted h r ≡ got s
+    → (u : Bytes) × (r ≡ got (s .set-up, u)) × Ended h (s .set-up) (readMove mostDepth (h .board) (moveLine orElse dashLine) (record { text = u; line = length (s .set-up) + 2; nodes = 0 })) s
+unfolding planted readTree
+planted-got h (refused v) s e = absurd (not-refused e)
+planted-got h (got x) s e =
+    let g = ended-got h (x .0) _ s e in (
+      x .1,
+      ap (λ (cs : List Stone). got (cs, x .1)) (g .stones),
+      subst (λ (cs : List Stone). Ended h cs (readMove mostDepth (h .board) (moveLine orElse dashLine) (record { text = x .1; line = length cs + 2; nodes = 0 })) s) (g .stones) g,
+    )
 
 headed-got : (t : Bytes) (o : Option (Header × Bytes)) (s : Sheet) → headerLine t ≡ o → headed o ≡ got s → SheetRead t s
 unfolding headed readBody
 headed-got t none s f e = absurd (not-refused e)
 headed-got t (some x) s f e =
-    let (h, after, r, no-more) = ended-got (x .0) _ s e in
+    let (u, stones, g) = planted-got (x .0) _ s e in
+    let h = g .header in
     record {
       body = x .1;
       header = f ∙ ap (λ (k : Header). some (k, x .1)) h;
-      after = after;
-      root-read = ap (λ (k : Header). readMove mostDepth (k .board) (moveLine orElse dashLine) (record { text = x .1; line = 2; nodes = 0 })) (sym h) ∙ r;
-      no-more = no-more;
+      tree = u;
+      set-up-read = ap (λ (k : Header). readSetUp (length (x .1)) (k .board) [] (x .1)) (sym h) ∙ stones;
+      after = g .after;
+      root-read = ap (λ (k : Header). readMove mostDepth (k .board) (moveLine orElse dashLine) (record { text = u; line = length (s .set-up) + 2; nodes = 0 })) (sym h) ∙ g .root;
+      no-more = g .no-more;
     }
 
 module _ (t : Bytes) (s : Sheet) (e : readSheet t ≡ got s) where
@@ -164,7 +185,13 @@ module _ (t : Bytes) (s : Sheet) (e : readSheet t ≡ got s) where
   unfolding readSheetUpTo
   sheet-read = headed-got t (headerLine t) s refl e
 
-  root-read : MoveRead (s .board) (moveLine orElse dashLine) mostDepth (record { text = sheet-read .body; line = 2; nodes = 0 }) (s .root) (sheet-read .after)
+  stones-are : StonesRead (s .board) [] (sheet-read .body) (s .set-up) (sheet-read .tree)
+  stones-are = stones-read (length (sheet-read .body)) (s .board) [] (sheet-read .body) (s .set-up, sheet-read .tree) (sheet-read .set-up-read)
+
+  stones-good : Good (s .board) [] (s .set-up)
+  stones-good = subst⁻¹ (Good (s .board) []) (stones-are .after) (stones-are .good)
+
+  root-read : MoveRead (s .board) (moveLine orElse dashLine) mostDepth (record { text = sheet-read .tree; line = length (s .set-up) + 2; nodes = 0 }) (s .root) (sheet-read .after)
   root-read = move-read mostDepth (s .board) (moveLine orElse dashLine) (record { of = root-is }) _ (s .root) (sheet-read .after) (sheet-read .root-read)
 
   pub well-read : WellRead s
@@ -174,20 +201,27 @@ module _ (t : Bytes) (s : Sheet) (e : readSheet t ≡ got s) where
       let m = root-read in
       let b = s .board in
       let ws = s .root .waits in
+      let first = length (s .set-up) + 2 in
       let n = m .node-of .2 in
       let nodes : length (everyMove s) + length (everyWait s) ≡ suc (nodesInWaits ws) = omega (arith, nodes-of-waits ws) in
+      let next : first + 1 ≡ suc first = omega arith in
       record {
         size = size;
-        some-moves = some-in-waits ws b 127 3 (m .waits-of);
-        on-board = board-in-waits ws b 127 3 (m .waits-of);
+        set-up-on-board = good-on stones-good;
+        set-up-once = good-once stones-good;
+        some-moves = some-in-waits ws b 127 (first + 1) (m .waits-of);
+        on-board = board-in-waits ws b 127 (first + 1) (m .waits-of);
         root-on-board = subst⁻¹ (λ (z : ℕ). (z ≡ 0) ⊎ T (isCell b z)) (m .node-of .3 ∙ n .its-cell) (cell-read b (n .line-read .0 .place) (n .inside));
         few-nodes = omega (arith, nodes, m .went-of .nodes-went, m .went-of .still-few (omega arith));
-        shallow = omega (arith, waits-shallow ws b 127 3 (m .waits-of));
+        shallow = omega (arith, waits-shallow ws b 127 (first + 1) (m .waits-of));
         first-line = m .line-of;
-        in-order = rw (m .line-of, nodes) (ap (λ (l : List ℕ). 2 ∷ l) (waits-in-order ws b 127 3 (m .waits-of)));
+        in-order = rw (m .line-of, nodes) (ap (λ (l : List ℕ). first ∷ l) (waits-in-order ws b 127 (first + 1) (m .waits-of) ∙ ap (λ (i : ℕ). upFrom i (nodesInWaits ws)) next));
       }
 
   -- the text that was read is what is written of the sheet
   pub print-back : t ≡ written s
   unfolding written
-  print-back = header-is t _ (sheet-read .header) .0 ∙ rw (root-read .went-of .text-went, sheet-read .no-more) (simp (append-assoc, append-nil))
+  print-back =
+      let stones : sheet-read .body ≡ writtenStones (s .board) (s .set-up) ++ sheet-read .tree =
+      subst⁻¹ (λ (cs : List Stone). sheet-read .body ≡ writtenStones (s .board) cs ++ sheet-read .tree) (stones-are .after) (stones-are .text) in
+      header-is t _ (sheet-read .header) .0 ∙ rw (stones, root-read .went-of .text-went, sheet-read .no-more) (simp (append-assoc, append-nil))

@@ -5,21 +5,23 @@ use Prim.Native.Nat.{ℕ, zero, suc, _+_, _-_, _≤_, _<_}
 use mathlib.Core.List.{List, [], _∷_, _++_, append-assoc, append-nil}
 use mathlib.Core.Option.{some}
 use lib.Dec.{T}
+use lib.ListN.{length}
 use native.Mathlib.Omega.{arith}
 use Rattle.rules.specs.Sizes.{mostNodes}
 use Rattle.rules.specs.Words.{_∈_, at-head, in-tail}
 use Rattle.rules.specs.Board.{isCell}
 use Rattle.rules.specs.Text.{Bytes, Reader, _orElse_}
-use Rattle.rules.specs.Lines.{Line, moveLine, dashLine, waitLine}
+use Rattle.rules.specs.Lines.{Line, Header, moveLine, dashLine, waitLine}
 use Rattle.rules.specs.Tree.{Waits, noWaits, wait, Moves, noMoves, move, Wait, Move, asWaits, asMoves, Sheet, movesOfWaits, movesOfMoves, waitsOfWaits, waitsOfMoves, everyMove, everyWait, moveCount, waitCount}
-use Rattle.rules.specs.Written.{printed, aLine, writtenHeader, placeOf, howManyWaits, howManyMoves, writtenMove, writtenWait, writtenWaits, writtenMoves, written}
-use Rattle.rules.specs.Reading.{Result, got, Spot, Reading, go, give, within, cellOf, nodeHere, nodeLine, inTurn, readMove, readWait, ended, readBody, headed, readSheetUpTo, readSheet}
+use Rattle.rules.specs.Written.{printed, aLine, writtenHeader, placeOf, howManyWaits, howManyMoves, writtenMove, writtenWait, writtenWaits, writtenMoves, writtenStones, written}
+use Rattle.rules.specs.Reading.{Result, got, Spot, Reading, go, give, within, cellOf, nodeHere, nodeLine, inTurn, readMove, readWait, ended, readTree, planted, readBody, headed, readSheetUpTo, readSheet}
 use Rattle.rules.specs.Unread.{BoardSize}
 use Rattle.rules.specs.Plain.{linesOfWaits, linesOfMoves, linesOf, upFrom, depthOfWaits, depthOfMoves, WellRead, Spells}
 use Rattle.rules.specs.declared.Board.{Board}
 use Rattle.rules.proofs.NodeLine.{sees-line, seen-is}
 use Rattle.rules.proofs.Lists.{in-first, in-second, not-nil}
-use Rattle.rules.proofs.Lines.{header-back, wait-back, Names, cell-names, root-names}
+use Rattle.rules.proofs.Lines.{header-back, no-set-up-line, wait-back, Names, cell-names, root-names}
+use Rattle.rules.proofs.SetUp.{stones-back, good-of}
 use Rattle.rules.proofs.Reading.{nodesInWaits, nodesInMoves, ReadWaits, ReadMoves}
 use Rattle.rules.proofs.WellRead.{well-read, print-back, nodes-of-waits}
 
@@ -169,22 +171,30 @@ module _ (b : Board) (size : BoardSize b) where
 
 -- what is written of a sheet that is `WellRead` reads as that sheet
 pub read-back : (s : Sheet) → WellRead s → readSheet (written s) ≡ got s
-unfolding readSheetUpTo headed readBody ended written linesOf moveCount waitCount everyMove everyWait
+unfolding readSheetUpTo headed readBody planted readTree ended written linesOf moveCount waitCount everyMove everyWait
 read-back s h =
     let b = s .board in
     let ws = s .root .waits in
+    let cs = s .set-up in
     let size = h .size in
-    let (line, k, lines) = up-first (s .root .line) 2 _ (linesOfWaits ws) (h .in-order ∙ ap (λ (i : ℕ). upFrom i (moveCount s + waitCount s)) (h .first-line)) in
-    let (tree, _, _) = waits-placed ws [] b 127 3 k (h .some-moves) (h .on-board) (omega (arith, h .shallow)) (append-nil (linesOfWaits ws) ∙ lines) in
+    let first = length cs + 2 in
+    let header : Header = record { board = b; player = s .player } in
+    let (line, k, lines) = up-first (s .root .line) first _ (linesOfWaits ws) (h .in-order ∙ ap (λ (i : ℕ). upFrom i (moveCount s + waitCount s)) (h .first-line)) in
+    let (tree, _, _) = waits-placed ws [] b 127 (first + 1) k (h .some-moves) (h .on-board) (omega (arith, h .shallow)) (append-nil (linesOfWaits ws) ∙ lines) in
     let few : 1 + nodesInWaits ws ≤ mostNodes = omega (arith, h .few-nodes, nodes-of-waits ws) in
     let root =
-    move-one b size (moveLine orElse dashLine) 127 2 0 (s .root .cell) ws (writtenWaits b ws ++ []) _
-    (root-names b (s .root .cell) size (h .root-on-board)) (omega arith) (waits-back b size ws 127 [] 3 1 tree few) in
-    let text : written s ≡ writtenHeader b (s .player) ++ (writtenMove (placeOf b (s .root .cell)) (howManyWaits ws) ++ (writtenWaits b ws ++ [])) = simp (append-assoc, append-nil) in
+    move-one b size (moveLine orElse dashLine) 127 first 0 (s .root .cell) ws (writtenWaits b ws ++ []) _
+    (root-names b (s .root .cell) size (h .root-on-board)) (omega arith) (waits-back b size ws 127 [] (first + 1) 1 tree few) in
+    let rest : Bytes = writtenMove (placeOf b (s .root .cell)) (howManyWaits ws) ++ (writtenWaits b ws ++ []) in
+    let stones =
+    stones-back b size (length (writtenStones b cs ++ rest)) [] cs rest (good-of b [] cs (h .set-up-on-board) (h .set-up-once))
+    (unfold writtenMove aLine printed in no-set-up-line 109 _ (λ e. omega arith)) (omega arith) in
+    let text : written s ≡ writtenHeader b (s .player) ++ (writtenStones b cs ++ rest) = simp (append-assoc, append-nil) in
     ap readSheet text
     ∙ ap headed (header-back b (s .player) _ size)
-    ∙ ap (ended (record { board = b; player = s .player })) root
-    ∙ ap (λ (l : ℕ). got (record { board = b; player = s .player; root = record { line = l; cell = s .root .cell; waits = ws } })) (sym line)
+    ∙ ap (planted header) stones
+    ∙ ap (ended header cs) root
+    ∙ ap (λ (l : ℕ). got (record { board = b; player = s .player; set-up = cs; root = record { line = l; cell = s .root .cell; waits = ws } })) (sym line)
 
 -- a text reads as a sheet exactly when it is what is written of the sheet, and the sheet is `WellRead`
 pub reads-exactly : (t : Bytes) (s : Sheet) → (readSheet t ≡ got s) ↔ Spells t s

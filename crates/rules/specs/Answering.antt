@@ -7,7 +7,7 @@ use lib.Dec.{eqb}
 use Rattle.rules.specs.Words.{among}
 use Rattle.rules.specs.Board.{isCell}
 use Rattle.rules.specs.Joining.{joined}
-use Rattle.rules.specs.Tree.{Waits, noWaits, wait, Sheet, stone}
+use Rattle.rules.specs.Tree.{Waits, noWaits, wait, Sheet, oppCells, atStart}
 use Rattle.rules.specs.Fair.{inWaits, inMoves, inMove}
 use Rattle.rules.specs.Choice.{Choice, taken, opened, firstUnder}
 
@@ -17,13 +17,13 @@ pub record Game : Type 0 where
   pub theirs : List ℕ
   pub open-waits : Waits
 
--- "Start: the root's stone, if any; the root's waits are open."
+-- "Start: the root's stone, if any; the root's waits are open." (Follow-up C-11: the set-up stones are on the board)
 unfoldable pub start : Sheet → Game
-start s = record { answers = []; theirs = []; open-waits = s .root .waits }
+start s = record { answers = []; theirs = oppCells (s .set-up); open-waits = s .root .waits }
 
 -- the player's stones
 unfoldable pub mine : Sheet → Game → List ℕ
-mine s g = stone (s .root .cell) ++ g .answers
+mine s g = atStart s ++ g .answers
 
 -- "The opponent puts a stone on an empty cell": one of the board that neither side has taken
 unfoldable pub isTaken : Sheet → Game → ℕ → Bool

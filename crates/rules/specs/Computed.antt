@@ -10,21 +10,25 @@ use Rattle.rules.specs.Words.{among, keep, any, upTo, firstOrNone, oneIf
 use Rattle.rules.specs.Board.{onBoard, cellAt, cells, isCell, columnOf, rowOf, there, around, neighbours, onFirstSide, onLastSide, listed, smallest}
 use Rattle.rules.specs.Joining.{touches, grow, reachedIn, joined}
 use Rattle.rules.specs.Text.{bind, give, guard, _orElse_, anyByte, byte, word, tab, lineFeed, isDigit, digits, afterDigits, spelled, wellSpelled, number, numberIn}
-use Rattle.rules.specs.Lines.{player, headerUpTo, headerLine, letter, place, moveLine, dashLine, waitLine}
-use Rattle.rules.specs.Tree.{asWaits, asMoves, stone, everyMove, everyWait, moveCount, waitCount, movesOfWaits, movesOfMoves, waitsOfWaits, waitsOfMoves}
-use Rattle.rules.specs.Reading.{go, give as give·Reading, within, cellOf, refuseHere, lineHere, nodeHere, thisSpot, isNothing, nodeLine, inTurn, ended, readBody, headed, readSheetUpTo, readSheet, readMove, readWait, got, refused}
-use Rattle.rules.specs.Fair.{inMove, holding, inEvery, notApart, notElusive, faultAt, firstFault, firstNotApart, firstNotElusive, inWaits, inMoves}
+use Rattle.rules.specs.Lines.{player, headerUpTo, headerLine, letter, place, isSide, side, setUpLine, moveLine, dashLine, waitLine}
+use Rattle.rules.specs.Tree.{asWaits, asMoves, stone, setUpCells, cellsOf, atStart, everyMove, everyWait, moveCount, waitCount, movesOfWaits, movesOfMoves, waitsOfWaits, waitsOfMoves}
+use Rattle.rules.specs.Reading.{go, give as give·Reading, within, cellOf, refuseHere, lineHere, nodeHere, thisSpot, isNothing, nodeLine, inTurn, ended, unlike, setDown, readSetUp, readTree, planted, readBody, headed, readSheetUpTo, readSheet, readMove, readWait, got, refused}
+use Rattle.rules.specs.Fair.{inMove, holding, inEvery, notApart, notElusive, onSetUp, faultAt, firstFault, firstOnSetUp, firstNotApart, firstNotElusive, inWaits, inMoves}
 use Rattle.rules.specs.Outcomes.{eachWithEach, outcomes, outcomeCount, outcomesOfWaits, outcomesOfMoves, countOfWaits, countOfMoves}
 use Rattle.rules.specs.Choice.{the-first, one-later}
 use Rattle.rules.specs.Answering.{smallestLine, firstLine, touchedAnswer, freeAnswer, answer, start, mine, isOver, isTaken, isEmpty, next, answeredBy, answered}
 use Rattle.rules.specs.Entries.{_>>=_, refuseIf, refuseFault, refuseUnjoined, readTextUpTo, readUpTo, fair, satisfying, accepted, counts, judged, judge, step, rounds, refusedPlay, playedOut, playOn, play, outcomeCells, named, outcome, workspaceAfter, roomAfter, playShown, outcomeShown}
 use Rattle.rules.specs.Holder.{allowed}
 use Rattle.rules.specs.declared.Verdict.the-variants.{NoSuchCell}
-use Rattle.rules.specs.Samples.{byteOf, sheet, toldOf, reply, P1, P3, p1, p3, large, table, traps, replies, expected}
+use Rattle.rules.specs.Samples.{byteOf, sheet, toldOf, reply, P1, P3, p1, p3, large, stones, onStones, table, traps, replies, expected}
 
 -- in P1 the opponent may begin with 3, and the holder may answer 4
 abbrev Opens : Type 0
 Opens = T (not (isOver p1 (start p1))) × T (isEmpty p1 (start p1) 3) × T (allowed 3 (p1 .root .waits) (the-first (one-later (the-first tt))))
+
+-- from set-up stones the opponent may begin with 3
+abbrev StonesOpen : Type 0
+StonesOpen = T (not (isOver onStones (start onStones))) × T (isEmpty onStones (start onStones) 3)
 
 -- on 19 by 19 the opponent may move to 361, the answer is 1, and 362 is no cell
 abbrev LastCell : Type 0
@@ -32,9 +36,9 @@ LastCell = (step large (start large) 361 ≡ got (answered (start large) 361)) �
 
 computed : (replies table ≡ expected table) × (replies traps ≡ expected traps) × (accepted leastWorkspace (sheet P1) ≡ got p1) × Opens × (readSheet (sheet P3) ≡ got p3)
     × (headerLine (sheet P1) ≡ some (record { board = p1 .board; player = p1 .player }, sheet "m b1 1/w 2/m a2 0/m b2 0/"))
-    × LastCell
-unfolding among keep any upTo firstOrNone oneIf onBoard cellAt cells isCell columnOf rowOf there around neighbours onFirstSide onLastSide listed smallest touches grow reachedIn joined bind give guard _orElse_ anyByte byte word tab lineFeed isDigit digits afterDigits spelled wellSpelled number numberIn player headerUpTo letter place moveLine dashLine waitLine asWaits asMoves stone everyMove everyWait moveCount waitCount movesOfWaits movesOfMoves waitsOfWaits waitsOfMoves go give·Reading within cellOf refuseHere lineHere nodeHere thisSpot isNothing nodeLine inTurn ended readBody headed readSheetUpTo readMove readWait inMove holding inEvery notApart notElusive faultAt firstFault firstNotApart firstNotElusive inWaits inMoves eachWithEach outcomes outcomeCount outcomesOfWaits outcomesOfMoves countOfWaits countOfMoves allowed smallestLine firstLine touchedAnswer freeAnswer answer start mine isOver isTaken isEmpty next answeredBy answered _>>=_ refuseIf refuseFault refuseUnjoined readUpTo readTextUpTo fair satisfying accepted counts judged judge step rounds refusedPlay playedOut playOn play outcomeCells named outcome workspaceAfter roomAfter playShown outcomeShown byteOf sheet toldOf reply table traps replies expected
-computed = (refl, refl, refl, (tt, tt, tt), refl, refl, (refl, refl, refl))
+    × LastCell × (accepted leastWorkspace (sheet stones) ≡ got onStones) × StonesOpen
+unfolding among keep any upTo firstOrNone oneIf onBoard cellAt cells isCell columnOf rowOf there around neighbours onFirstSide onLastSide listed smallest touches grow reachedIn joined bind give guard _orElse_ anyByte byte word tab lineFeed isDigit digits afterDigits spelled wellSpelled number numberIn player headerUpTo letter place isSide side setUpLine moveLine dashLine waitLine asWaits asMoves stone setUpCells cellsOf atStart everyMove everyWait moveCount waitCount movesOfWaits movesOfMoves waitsOfWaits waitsOfMoves go give·Reading within cellOf refuseHere lineHere nodeHere thisSpot isNothing nodeLine inTurn ended unlike setDown readSetUp readTree planted readBody headed readSheetUpTo readMove readWait inMove holding inEvery notApart notElusive onSetUp faultAt firstFault firstOnSetUp firstNotApart firstNotElusive inWaits inMoves eachWithEach outcomes outcomeCount outcomesOfWaits outcomesOfMoves countOfWaits countOfMoves allowed smallestLine firstLine touchedAnswer freeAnswer answer start mine isOver isTaken isEmpty next answeredBy answered _>>=_ refuseIf refuseFault refuseUnjoined readUpTo readTextUpTo fair satisfying accepted counts judged judge step rounds refusedPlay playedOut playOn play outcomeCells named outcome workspaceAfter roomAfter playShown outcomeShown byteOf sheet toldOf reply table traps replies expected
+computed = (refl, refl, refl, (tt, tt, tt), refl, refl, (refl, refl, refl), refl, (tt, tt))
 
 pub samples : replies table ≡ expected table
 samples = computed .0
@@ -58,3 +62,10 @@ p1-header = computed .5
 
 pub last-cell : LastCell
 last-cell = computed .6
+
+-- a sheet with set-up stones of both sides is accepted, and a game on it may begin
+pub stones-accepted : accepted leastWorkspace (sheet stones) ≡ got onStones
+stones-accepted = computed .7
+
+pub stones-open : StonesOpen
+stones-open = computed .8

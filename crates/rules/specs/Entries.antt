@@ -13,7 +13,7 @@ use Rattle.rules.specs.Board.{isCell, listed}
 use Rattle.rules.specs.Joining.{joined}
 use Rattle.rules.specs.Tree.{Sheet, moveCount, waitCount}
 use Rattle.rules.specs.Reading.{Result, refused, got, readSheetUpTo}
-use Rattle.rules.specs.Fair.{Fault, firstNotApart, firstNotElusive}
+use Rattle.rules.specs.Fair.{Fault, firstOnSetUp, firstNotApart, firstNotElusive}
 use Rattle.rules.specs.Outcomes.{outcomes, outcomeCount}
 use Rattle.rules.specs.Answering.{Game, start, isOver, isTaken, answered}
 use Rattle.rules.specs.declared.Board.{Board}
@@ -22,7 +22,7 @@ use Rattle.rules.specs.declared.Counts.{Counts}
 use Rattle.rules.specs.declared.Played.{Played}
 use Rattle.rules.specs.declared.Named.{Named}
 use Rattle.rules.specs.declared.Verdict.{Verdict}
-use Rattle.rules.specs.declared.Verdict.the-variants.{Accepted, Done, SmallWorkspace, LongText, NotApart, NotElusive, TooManyOutcomes, NotJoined, ShortRoom, AfterOver, NoSuchCell, CellTaken, NoSuchOutcome}
+use Rattle.rules.specs.declared.Verdict.the-variants.{Accepted, Done, SmallWorkspace, LongText, NotApart, NotElusive, TooManyOutcomes, NotJoined, ShortRoom, AfterOver, NoSuchCell, CellTaken, NoSuchOutcome, OnSetUp}
 
 infixl 5 _>>=_
 -- one check after another; a refusal ends them
@@ -45,7 +45,7 @@ unfoldable pub refuseUnjoined : Board → Player → (n : ℕ) → List (List �
 refuseUnjoined b p n [] = got tt
 refuseUnjoined b p n (o ∷ os) = elim (joined b p (among o)) [ true ↦ refuseUnjoined b p (n + 1) os | false ↦ refused (NotJoined n) ]
 
--- 2, then the reading's 3 to 9, of a board of up to so many columns and rows
+-- 2, then the reading's 3 to 9 and 19, of a board of up to so many columns and rows
 unfoldable pub readTextUpTo : (most : ℕ) → Bytes → Result Sheet
 readTextUpTo most t = do
   _ ← refuseIf (ltb mostBytes (length t)) LongText
@@ -54,7 +54,7 @@ readTextUpTo most t = do
 abbrev pub readText : Bytes → Result Sheet
 readText t = readTextUpTo largest t
 
--- order: 1, 2, 3; then the reading's 4 to 9
+-- order: 1, 2, 3; then the reading's 4 to 9 and 19
 unfoldable pub readUpTo : (most workspace : ℕ) → Bytes → Result Sheet
 readUpTo most w t = do
   _ ← refuseIf (ltb w leastWorkspace) SmallWorkspace
@@ -63,9 +63,10 @@ readUpTo most w t = do
 abbrev pub read : (workspace : ℕ) → Bytes → Result Sheet
 read w t = readUpTo largest w t
 
--- then 10, 11, 12, each over the whole tree
+-- then 20, 10, 11, 12, each over the whole tree
 unfoldable pub fair : Sheet → Result Sheet
 fair s = do
+  _ ← refuseFault OnSetUp (firstOnSetUp s)
   _ ← refuseFault NotApart (firstNotApart s)
   _ ← refuseFault NotElusive (firstNotElusive s)
   _ ← refuseIf (ltb mostOutcomes (outcomeCount s)) TooManyOutcomes

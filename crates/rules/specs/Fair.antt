@@ -4,9 +4,9 @@ use mathlib.Core.Bool.{Bool, true, false, _&&_, _||_}
 use mathlib.Core.List.{List, [], _∷_}
 use mathlib.Core.Option.{Option, none, some}
 use lib.Dec.{eqb, leb}
-use Rattle.rules.specs.Words.{oneIf}
+use Rattle.rules.specs.Words.{among, oneIf}
 use Rattle.rules.specs.Board.{smallest}
-use Rattle.rules.specs.Tree.{Waits, noWaits, wait, Moves, noMoves, move, Wait, Move, Sheet, everyMove, everyWait}
+use Rattle.rules.specs.Tree.{Waits, noWaits, wait, Moves, noMoves, move, Wait, Move, Stone, Sheet, setUpCells, everyMove, everyWait}
 use Rattle.rules.specs.declared.Board.{Board}
 
 -- the cells of a node are all cells named at it or under it: x is one of some of these waits, or of some of these moves
@@ -41,6 +41,10 @@ notApart m x = (eqb x (m .cell) && inWaits (m .waits) x) || leb 2 (holding (m .w
 unfoldable pub notElusive : Wait → ℕ → Bool
 notElusive w x = inEvery (w .moves) x
 
+-- Free. At a move, its cell is faulty if a set-up stone is on it
+unfoldable pub onSetUp : List Stone → Move → ℕ → Bool
+onSetUp cs m x = eqb x (m .cell) && among (setUpCells cs) x
+
 -- a faulty node: its line, and its smallest faulty cell
 pub record Fault : Type 0 where
   pub line : ℕ
@@ -56,6 +60,9 @@ unfoldable pub firstFault : {N : Type 0} → Board → (line : N → ℕ) → (f
 firstFault b line faulty [] = none
 firstFault b line faulty (n ∷ ns) =
     elim (faultAt (line n) (smallest b (faulty n))) [ some f ↦ some f | none ↦ firstFault b line faulty ns ]
+
+unfoldable pub firstOnSetUp : Sheet → Option Fault
+firstOnSetUp s = firstFault (s .board) (λ m. m .line) (onSetUp (s .set-up)) (everyMove s)
 
 unfoldable pub firstNotApart : Sheet → Option Fault
 firstNotApart s = firstFault (s .board) (λ m. m .line) notApart (everyMove s)

@@ -15,8 +15,10 @@ pub mod Outcomes
 pub mod Choice
 pub mod Answering
 pub mod Entries
-pub mod UpTo
 pub mod Plain
+pub mod SameReplies
+pub mod UpTo
+pub mod Before
 pub mod Promise
 pub mod Holder
 pub mod GoesOn

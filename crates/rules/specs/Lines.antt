@@ -1,6 +1,6 @@
--- "The sheet": line 1, and the lines of moves and waits.
+-- "The sheet": line 1, the set-up lines, and the lines of moves and waits.
 use Prim.Native.Nat.{ℕ, _-_}
-use mathlib.Core.Bool.{_&&_}
+use mathlib.Core.Bool.{Bool, true, false, _&&_}
 use mathlib.Core.Option.{Option, none, some}
 use lib.Dec.{leb}
 use Rattle.rules.specs.Sizes.{largest, highestRow, mostUnder}
@@ -25,6 +25,22 @@ pub record Place : Type 0 where
 pub record Line : Type 0 where
   pub place : Option Place
   pub under : ℕ
+
+-- a set-up stone is the player's own or the opponent's
+pub data Side : Type 0 where
+  own : Side
+  opp : Side
+
+unfoldable pub isSide : Side → Side → Bool
+isSide own own = true
+isSide own opp = false
+isSide opp own = false
+isSide opp opp = true
+
+-- what a set-up line says
+pub record SetUpLine : Type 0 where
+  pub side : Side
+  pub place : Place
 
 -- `D` or `A`
 unfoldable pub player : Reader Player
@@ -59,6 +75,18 @@ place = do
   c ← letter
   r ← numberIn 1 highestRow
   give (record { column = c; row = r })
+
+-- a set-up line: `own` or `opp`, cell
+unfoldable pub side : Reader Side
+side = (word "own" >> give own) orElse (word "opp" >> give opp)
+
+unfoldable pub setUpLine : Reader SetUpLine
+setUpLine = do
+  o ← side
+  tab
+  p ← place
+  lineFeed
+  give (record { side = o; place = p })
 
 -- a move: `m`, cell, number of waits under it (0 to 2047)
 unfoldable pub moveLine : Reader Line

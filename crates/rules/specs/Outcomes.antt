@@ -1,7 +1,7 @@
 -- "Fair sheets": outcomes, their numbering and their count.
 use Prim.Native.Nat.{ℕ, _+_, _*_}
 use mathlib.Core.List.{List, [], _∷_, _++_, map}
-use Rattle.rules.specs.Tree.{Waits, noWaits, wait, Moves, noMoves, move, Sheet, stone}
+use Rattle.rules.specs.Tree.{Waits, noWaits, wait, Moves, noMoves, move, Sheet, stone, atStart}
 
 -- each of the first list with each of the second, the second varying fastest
 unfoldable pub eachWithEach : List (List ℕ) → List (List ℕ) → List (List ℕ)
@@ -30,9 +30,9 @@ unfoldable mutual
   countOfMoves noMoves = 0
   countOfMoves (move line c ws ms) = countOfWaits ws + countOfMoves ms
 
--- of the root
+-- of the sheet: the own set-up stones with an outcome of the root
 unfoldable pub outcomes : Sheet → List (List ℕ)
-outcomes s = map (λ o. stone (s .root .cell) ++ o) (outcomesOfWaits (s .root .waits))
+outcomes s = map (λ o. atStart s ++ o) (outcomesOfWaits (s .root .waits))
 
 unfoldable pub outcomeCount : Sheet → ℕ
 outcomeCount s = countOfWaits (s .root .waits)

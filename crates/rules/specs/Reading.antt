@@ -1,17 +1,20 @@
--- "The sheet" and "Three entries", 3 to 9: the header, then the nodes in preorder. The first line with a fault decides.
+-- "The sheet" and "Three entries", 3 to 9 and 19: the header, the set-up lines, then the nodes in preorder. The first line with
+-- a fault decides.
 use Prim.Native.Nat.{ℕ, zero, suc, _+_}
 use mathlib.Core.Bool.{Bool, true, false, not}
-use mathlib.Core.List.{List, [], _∷_}
+use mathlib.Core.List.{List, [], _∷_, _++_}
 use mathlib.Core.Option.{Option, none, some}
 use lib.Dec.{eqb}
+use lib.ListN.{length}
 use Rattle.rules.specs.Sizes.{largest, mostNodes, mostDepth}
+use Rattle.rules.specs.Words.{if_then_else_, among}
 use Rattle.rules.specs.Board.{onBoard, cellAt}
 use Rattle.rules.specs.Text.{Bytes, Reader, _orElse_}
-use Rattle.rules.specs.Lines.{Line, Place, Header, headerUpTo, moveLine, dashLine, waitLine}
-use Rattle.rules.specs.Tree.{Wait, Move, noWaits, noMoves, asWaits, asMoves, Sheet}
+use Rattle.rules.specs.Lines.{Line, Place, Header, headerUpTo, SetUpLine, setUpLine, moveLine, dashLine, waitLine}
+use Rattle.rules.specs.Tree.{Wait, Move, noWaits, noMoves, asWaits, asMoves, Stone, setUpCells, Sheet}
 use Rattle.rules.specs.declared.Board.{Board}
 use Rattle.rules.specs.declared.Verdict.{Verdict}
-use Rattle.rules.specs.declared.Verdict.the-variants.{BadHeader, BadLine, OffBoard, TooManyNodes, TooDeep, Unfinished, TextAfter}
+use Rattle.rules.specs.declared.Verdict.the-variants.{BadHeader, BadLine, OffBoard, TooManyNodes, TooDeep, Unfinished, TextAfter, SetUpTwice}
 
 -- a refusal, or what was got
 pub data Result (X : Type 0) : Type 0 where
@@ -126,17 +129,50 @@ unfoldable mutual
     give (record { line = n .line; moves = asMoves ms })
 
 -- 9: text remains after the tree
-unfoldable pub ended : Header → Result (Move × Spot) → Result Sheet
-ended h (refused v) = refused v
-ended h (got x) =
+unfoldable pub ended : Header → List Stone → Result (Move × Spot) → Result Sheet
+ended h cs (refused v) = refused v
+ended h cs (got x) =
     elim (x .1 .text) [
-      | [] ↦ got (record { board = h .board; player = h .player; root = x .0 })
+      | [] ↦ got (record { board = h .board; player = h .player; set-up = cs; root = x .0 })
       | _∷_ _ _ ↦ refused (TextAfter (x .1 .line))
     ]
 
--- the body after the header line is read as a text that begins where the header ended; its first node is a move
+-- 19: a set-up cell named twice, at its second line
+unfoldable pub unlike : (before : List ℕ) → (line : ℕ) → Stone → Result Stone
+unlike before line c = if among before (c .cell) then refused (SetUpTwice line (c .cell)) else got c
+
+-- 5: a set-up cell off the board
+unfoldable pub setDown : Board → (before : List ℕ) → (line : ℕ) → SetUpLine → Result Stone
+setDown b before line l =
+    if onBoard b (l .place .column) (l .place .row)
+    then unlike before line (record { side = l .side; cell = cellAt b (l .place .column) (l .place .row) })
+    else refused (OffBoard line)
+
+-- the set-up lines, as far as they go, after those of the stones before; with the text after them. (`most` is as many as there
+-- can be. A malformed set-up line is none, so that it is refused with 4 in the first node's place.)
+unfoldable pub readSetUp : (most : ℕ) → Board → (before : List Stone) → Bytes → Result (List Stone × Bytes)
+readSetUp zero b before t = got (before, t)
+readSetUp (suc most) b before t =
+    elim (setUpLine t) [
+      | none ↦ got (before, t)
+      | some x ↦
+          elim (setDown b (setUpCells before) (length before + 2) (x .0)) [
+            | refused v ↦ refused v
+            | got c ↦ readSetUp most b (before ++ c ∷ []) (x .1)
+          ]
+    ]
+
+-- the tree after them; its first node is a move
+unfoldable pub readTree : Header → List Stone → Bytes → Result Sheet
+readTree h cs t = ended h cs (readMove mostDepth (h .board) (moveLine orElse dashLine) (record { text = t; line = length cs + 2; nodes = 0 }))
+
+unfoldable pub planted : Header → Result (List Stone × Bytes) → Result Sheet
+planted h (refused v) = refused v
+planted h (got x) = readTree h (x .0) (x .1)
+
+-- the body after the header line is read as a text that begins where the header ended
 unfoldable pub readBody : Header → Bytes → Result Sheet
-readBody h t = ended h (readMove mostDepth (h .board) (moveLine orElse dashLine) (record { text = t; line = 2; nodes = 0 }))
+readBody h t = planted h (readSetUp (length t) (h .board) [] t)
 
 -- 3: line 1 not a header
 unfoldable pub headed : Option (Header × Bytes) → Result Sheet

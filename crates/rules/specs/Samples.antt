@@ -7,9 +7,10 @@ use lib.Dec.{eqb}
 use Rattle.rules.specs.Sizes.{leastWorkspace}
 use Rattle.rules.specs.Words.{if_then_else_, oneIf}
 use Rattle.rules.specs.Text.{Bytes}
+use Rattle.rules.specs.Lines.{own, opp}
 use Rattle.rules.specs.Tree.{noWaits, wait, Moves, noMoves, move, Sheet}
 use Rattle.rules.specs.Verdict.{told}
-use Rattle.rules.specs.Entries.{judge, play}
+use Rattle.rules.specs.Entries.{judge, play, outcome}
 use Rattle.rules.specs.declared.Told.{Told}
 use Rattle.rules.specs.declared.Player.the-variants.{D}
 
@@ -24,8 +25,10 @@ sheet (S._∷_ c s) = byteOf (code c) ∷ sheet s
 pub data Request : Type 0 where
   judging : S.String → Request
   playing : S.String → List ℕ → Request
+  naming : S.String → ℕ → Request
 
--- of judge: number, line, cell, index, moves, waits, outcomes; of play: number, place, 1 where play is over, the answers
+-- of judge: number, line, cell, index, moves, waits, outcomes; of play: number, place, 1 where play is over, the answers; of outcome:
+-- number, the cells
 unfoldable pub toldOf : Told → List ℕ
 toldOf v = v .number ∷ v .line ∷ v .cell ∷ v .index ∷ v .counts .moves ∷ v .counts .waits ∷ v .counts .outcomes ∷ []
 
@@ -34,6 +37,9 @@ reply (judging s) = toldOf (told (judge leastWorkspace (sheet s)))
 reply (playing s xs) =
     let r = play leastWorkspace (sheet s) xs 100 in
     (told (r .verdict)) .number ∷ r .place ∷ oneIf (r .over) ∷ r .answers
+reply (naming s i) =
+    let r = outcome leastWorkspace (sheet s) i 100 in
+    (told (r .verdict)) .number ∷ r .cells
 
 abbrev pub P1 : S.String
 P1 = "hex 2 2 D/m b1 1/w 2/m a2 0/m b2 0/"
@@ -50,7 +56,7 @@ P8 = "hex 3 2 D/m - 3/w 2/m b1 0/m c1 0/w 2/m a2 0/m b2 0/w 2/m a1 0/m c2 0/"
 
 -- the trees that P1 and P3 write
 abbrev pub onB1 : Moves → Sheet
-onB1 ms = record { board = record { columns = 2; rows = 2 }; player = D; root = record { line = 2; cell = 2; waits = wait 3 ms noWaits } }
+onB1 ms = record { board = record { columns = 2; rows = 2 }; player = D; set-up = []; root = record { line = 2; cell = 2; waits = wait 3 ms noWaits } }
 
 abbrev pub p1 : Sheet
 p1 = onB1 (move 4 3 noWaits (move 5 4 noWaits noMoves))
@@ -60,7 +66,7 @@ p3 = onB1 (move 4 3 noWaits noMoves)
 
 -- on 19 by 19 a root without a stone, and a wait for a1 or b1
 abbrev pub large : Sheet
-large = record { board = record { columns = 19; rows = 19 }; player = D; root = record { line = 2; cell = 0; waits = wait 3 (move 4 1 noWaits (move 5 2 noWaits noMoves)) noWaits } }
+large = record { board = record { columns = 19; rows = 19 }; player = D; set-up = []; root = record { line = 2; cell = 0; waits = wait 3 (move 4 1 noWaits (move 5 2 noWaits noMoves)) noWaits } }
 
 -- a row: its name in the paper, what is asked, and the reply
 pub record Row : Type 0 where
@@ -90,7 +96,23 @@ table =
 abbrev twoWaits : S.String
 twoWaits = "hex 3 2 D/m b1 2/w 2/m a1 0/m c1 0/w 2/m a2 0/m b2 0/"
 
--- "Traps for the setter's tool", and the sentences of the paper that P1 to P12 do not pin
+-- set-up stones of both sides before a tree, the sheet that they write, and own set-up stones that join already
+abbrev pub stones : S.String
+stones = "hex 2 2 D/opp a1/own b1/m - 1/w 2/m a2 0/m b2 0/"
+
+abbrev pub onStones : Sheet
+onStones =
+    record {
+      board = record { columns = 2; rows = 2 };
+      player = D;
+      set-up = record { side = opp; cell = 1 } ∷ record { side = own; cell = 2 } ∷ [];
+      root = record { line = 4; cell = 0; waits = wait 5 (move 6 3 noWaits (move 7 4 noWaits noMoves)) noWaits };
+    }
+
+abbrev pub joinedStones : S.String
+joinedStones = "hex 2 2 D/own b1/own b2/m - 0/"
+
+-- "Traps for the setter's tool", the sentences of the paper that P1 to P12 do not pin, and those of follow-up C-11
 unfoldable pub traps : List Row
 traps =
     row "the first and the third wait share a cell" (judging "hex 3 3 D/m b2 3/w 2/m a1 0/m b1 0/w 2/m a2 0/m c2 0/w 2/m a1 0/m c3 0/") (10 ∷ 2 ∷ 1 ∷ 0 ∷ 0 ∷ 0 ∷ 0 ∷ [])
@@ -114,6 +136,28 @@ traps =
     ∷ row "3: 20 rows" (judging "hex 1 20 A/m a1 0/") (3 ∷ 1 ∷ 0 ∷ 0 ∷ 0 ∷ 0 ∷ 0 ∷ [])
     ∷ row "the last cell of 19 by 2 is a free move" (playing P1·19 (38 ∷ [])) (0 ∷ 0 ∷ 1 ∷ 20 ∷ [])
     ∷ row "16: one more is no cell" (playing P1·19 (39 ∷ [])) (16 ∷ 1 ∷ 0 ∷ [])
+    ∷ row "19: a set-up cell named twice, at its line" (judging "hex 2 2 D/own a1/own a1/zz/") (19 ∷ 3 ∷ 1 ∷ 0 ∷ 0 ∷ 0 ∷ 0 ∷ [])
+    ∷ row "19: by both sides" (judging "hex 2 2 D/own a1/opp a1/m - 0/") (19 ∷ 3 ∷ 1 ∷ 0 ∷ 0 ∷ 0 ∷ 0 ∷ [])
+    ∷ row "5: a set-up cell off the board" (judging "hex 2 2 D/own c1/own a1/m - 0/") (5 ∷ 2 ∷ 0 ∷ 0 ∷ 0 ∷ 0 ∷ 0 ∷ [])
+    ∷ row "4: a set-up line without a cell" (judging "hex 2 2 D/own b1/opp -/m - 0/") (4 ∷ 3 ∷ 0 ∷ 0 ∷ 0 ∷ 0 ∷ 0 ∷ [])
+    ∷ row "4: a set-up line after the first node" (judging "hex 2 2 D/m b1 1/own a1/") (4 ∷ 3 ∷ 0 ∷ 0 ∷ 0 ∷ 0 ∷ 0 ∷ [])
+    ∷ row "9: a set-up line after the tree" (judging "hex 2 2 D/own b1/m b2 0/opp a1/") (9 ∷ 4 ∷ 0 ∷ 0 ∷ 0 ∷ 0 ∷ 0 ∷ [])
+    ∷ row "8: the line after the set-up lines is missing" (judging "hex 2 2 D/own b1/") (8 ∷ 3 ∷ 0 ∷ 0 ∷ 0 ∷ 0 ∷ 0 ∷ [])
+    ∷ row "own set-up stones that join already" (judging joinedStones) (0 ∷ 0 ∷ 0 ∷ 0 ∷ 1 ∷ 0 ∷ 1 ∷ [])
+    ∷ row "set-up stones of both sides" (judging stones) (0 ∷ 0 ∷ 0 ∷ 0 ∷ 3 ∷ 1 ∷ 2 ∷ [])
+    ∷ row "20: a move on an opponent stone" (judging "hex 2 2 D/opp b2/own a1/m b1 1/w 2/m a2 0/m b2 0/") (20 ∷ 7 ∷ 4 ∷ 0 ∷ 0 ∷ 0 ∷ 0 ∷ [])
+    ∷ row "20 before 10: a move on an own stone" (judging "hex 2 2 D/own a1/m a1 1/w 1/m a1 0/") (20 ∷ 3 ∷ 1 ∷ 0 ∷ 0 ∷ 0 ∷ 0 ∷ [])
+    ∷ row "lines count from the set-up lines on" (judging "hex 2 2 D/opp a1/own b1/m - 1/w 1/m a2 0/") (11 ∷ 5 ∷ 3 ∷ 0 ∷ 0 ∷ 0 ∷ 0 ∷ [])
+    ∷ row "13: own stones are in every outcome" (judging "hex 3 2 D/own b1/opp a1/opp c1/m - 1/w 2/m a2 0/m c2 0/") (13 ∷ 0 ∷ 0 ∷ 1 ∷ 0 ∷ 0 ∷ 0 ∷ [])
+    ∷ row "play from set-up stones" (playing stones (3 ∷ [])) (0 ∷ 0 ∷ 1 ∷ 4 ∷ [])
+    ∷ row "the first move where it is free" (playing stones (4 ∷ [])) (0 ∷ 0 ∷ 1 ∷ 3 ∷ [])
+    ∷ row "17: on an opponent stone" (playing stones (1 ∷ [])) (17 ∷ 1 ∷ 0 ∷ [])
+    ∷ row "17: on an own stone" (playing stones (2 ∷ [])) (17 ∷ 1 ∷ 0 ∷ [])
+    ∷ row "play over at the start" (playing joinedStones []) (0 ∷ 0 ∷ 1 ∷ [])
+    ∷ row "15: over at the start" (playing joinedStones (1 ∷ [])) (15 ∷ 1 ∷ 0 ∷ [])
+    ∷ row "an outcome lists own stones" (naming stones 0) (0 ∷ 2 ∷ 3 ∷ [])
+    ∷ row "an outcome lists own stones, the next" (naming stones 1) (0 ∷ 2 ∷ 4 ∷ [])
+    ∷ row "18: no more outcomes" (naming stones 2) (18 ∷ [])
     ∷ []
 
 unfoldable pub replies : List Row → List (List ℕ)

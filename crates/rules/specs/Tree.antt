@@ -1,7 +1,9 @@
 -- "The sheet": the tree. A node keeps the number of its line.
 use Prim.Native.Nat.{ℕ, zero, suc}
+use mathlib.Core.Bool.{true, false}
 use mathlib.Core.List.{List, [], _∷_, _++_}
 use lib.ListN.{length}
+use Rattle.rules.specs.Lines.{Side, own, opp, isSide}
 use Rattle.rules.specs.declared.Board.{Board}
 use Rattle.rules.specs.declared.Player.{Player}
 
@@ -41,16 +43,41 @@ abbrev pub andThen : Waits → Waits → Waits
 andThen noWaits us = us
 andThen (wait line ms ws) us = wait line ms (andThen ws us)
 
--- a sheet: the board, the named player, and the first node, which is a move
+-- a set-up stone: whose it is, and its cell
+pub record Stone : Type 0 where
+  pub side : Side
+  pub cell : ℕ
+
+-- a sheet: the board, the named player, the set-up stones in the order of their lines, and the first node, which is a move
 pub record Sheet : Type 0 where
   pub board : Board
   pub player : Player
+  pub set-up : List Stone
   pub root : Move
 
 -- a move's stone; `-` puts none
 unfoldable pub stone : ℕ → List ℕ
 stone zero = []
 stone (suc c) = suc c ∷ []
+
+-- the cells of set-up stones: of all, and of one side; the player's own, and the opponent's
+unfoldable pub setUpCells : List Stone → List ℕ
+setUpCells [] = []
+setUpCells (c ∷ cs) = c .cell ∷ setUpCells cs
+
+unfoldable pub cellsOf : Side → List Stone → List ℕ
+cellsOf o [] = []
+cellsOf o (c ∷ cs) = elim (isSide o (c .side)) [ true ↦ c .cell ∷ cellsOf o cs | false ↦ cellsOf o cs ]
+
+abbrev pub ownCells : List Stone → List ℕ
+ownCells cs = cellsOf own cs
+
+abbrev pub oppCells : List Stone → List ℕ
+oppCells cs = cellsOf opp cs
+
+-- the player's stones at the start: the own set-up stones, and the root's stone, if any
+unfoldable pub atStart : Sheet → List ℕ
+atStart s = ownCells (s .set-up) ++ stone (s .root .cell)
 
 -- the moves at nodes and under them, in the order of their lines
 unfoldable mutual

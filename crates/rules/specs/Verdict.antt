@@ -3,7 +3,7 @@ use Prim.Native.Nat.{ℕ}
 use Rattle.rules.specs.declared.Verdict.{Verdict}
 use Rattle.rules.specs.declared.Told.{Told}
 use Rattle.rules.specs.declared.Counts.{Counts}
-use Rattle.rules.specs.declared.Verdict.the-variants.{Accepted, Done, SmallWorkspace, LongText, BadHeader, BadLine, OffBoard, TooManyNodes, TooDeep, Unfinished, TextAfter, NotApart, NotElusive, TooManyOutcomes, NotJoined, ShortRoom, AfterOver, NoSuchCell, CellTaken, NoSuchOutcome}
+use Rattle.rules.specs.declared.Verdict.the-variants.{Accepted, Done, SmallWorkspace, LongText, BadHeader, BadLine, OffBoard, TooManyNodes, TooDeep, Unfinished, TextAfter, NotApart, NotElusive, TooManyOutcomes, NotJoined, ShortRoom, AfterOver, NoSuchCell, CellTaken, NoSuchOutcome, SetUpTwice, OnSetUp}
 
 -- the counts are 0 on a refusal
 abbrev pub noCounts : Counts
@@ -36,3 +36,5 @@ told AfterOver = toldAs 15 0 0 0
 told NoSuchCell = toldAs 16 0 0 0
 told CellTaken = toldAs 17 0 0 0
 told NoSuchOutcome = toldAs 18 0 0 0
+told (SetUpTwice l c) = toldAs 19 l c 0
+told (OnSetUp l c) = toldAs 20 l c 0

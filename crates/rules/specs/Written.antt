@@ -7,8 +7,8 @@ use Prim.Native.String as S
 use Rattle.rules.specs.Board.{columnOf, rowOf}
 use Rattle.rules.specs.Text.{Bytes}
 use Rattle.rules.specs.Decimal.{decimal}
-use Rattle.rules.specs.Lines.{Place}
-use Rattle.rules.specs.Tree.{Waits, noWaits, wait, Moves, noMoves, move, Sheet}
+use Rattle.rules.specs.Lines.{Place, Side, own, opp}
+use Rattle.rules.specs.Tree.{Waits, noWaits, wait, Moves, noMoves, move, Stone, Sheet}
 use Rattle.rules.specs.declared.Board.{Board}
 use Rattle.rules.specs.declared.Player.{Player}
 use Rattle.rules.specs.declared.Player.the-variants.{D, A}
@@ -43,6 +43,18 @@ unfoldable pub placeOf : Board → ℕ → Option Place
 placeOf b zero = none
 placeOf b (suc x) = some (record { column = columnOf b (suc x); row = rowOf b (suc x) })
 
+-- a set-up line: `own` or `opp`, cell; the set-up lines one after another
+unfoldable pub writtenSide : Side → Bytes
+writtenSide own = printed "own"
+writtenSide opp = printed "opp"
+
+unfoldable pub writtenSetUp : Side → Option Place → Bytes
+writtenSetUp o p = aLine (writtenSide o) (writtenPlace p ∷ [])
+
+unfoldable pub writtenStones : Board → List Stone → Bytes
+writtenStones b [] = []
+writtenStones b (c ∷ cs) = writtenSetUp (c .side) (placeOf b (c .cell)) ++ writtenStones b cs
+
 -- the number of waits right under a move, and of moves right under a wait
 unfoldable pub howManyWaits : Waits → ℕ
 howManyWaits noWaits = 0
@@ -69,9 +81,10 @@ unfoldable mutual
   writtenMoves b noMoves = []
   writtenMoves b (move line c ws ms) = writtenMove (placeOf b c) (howManyWaits ws) ++ writtenWaits b ws ++ writtenMoves b ms
 
--- the whole text: the header, the root's line, and what stands under it
+-- the whole text: the header, the set-up lines, the root's line, and what stands under it
 unfoldable pub written : Sheet → Bytes
 written s =
     writtenHeader (s .board) (s .player)
+    ++ writtenStones (s .board) (s .set-up)
     ++ writtenMove (placeOf (s .board) (s .root .cell)) (howManyWaits (s .root .waits))
     ++ writtenWaits (s .board) (s .root .waits)

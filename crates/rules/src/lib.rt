@@ -49,6 +49,8 @@ pub enum Verdict {
     NoSuchCell,
     CellTaken,
     NoSuchOutcome,
+    SetUpTwice { line: u32, cell: u32 },
+    OnSetUp { line: u32, cell: u32 },
 }
 
 // What document 01 says of a verdict: its number, line, cell and index, and the counts.

@@ -1,4 +1,4 @@
--- What meets the hypotheses of `covers-play`: judge accepts P1, and play is given the move 3 on it.
+-- What meets the hypotheses of `covers-play`: judge accepts P1, and play is given the move 3 on it; and it accepts a sheet with set-up stones.
 use mathlib.Core.Path.{_≡_, refl, sym, _∙_, subst⁻¹}
 use Prim.Native.Nat.{ℕ}
 use mathlib.Core.List.{List, [], _∷_}
@@ -7,11 +7,13 @@ use native.Mathlib.Omega.{arith}
 use Rattle.rules.specs.Sizes.{leastWorkspace}
 use Rattle.rules.specs.Tree.{Sheet}
 use Rattle.rules.specs.Board.{smallest}
+use Rattle.rules.specs.Text.{Bytes}
+use Rattle.rules.specs.Reading.{got}
 use Rattle.rules.specs.Answering.{start, answered, isEmpty}
-use Rattle.rules.specs.Entries.{counts, judge, judged, JudgeKept, play, playShown, workspaceAfter, roomAfter}
+use Rattle.rules.specs.Entries.{accepted, counts, judge, judged, JudgeKept, play, playShown, workspaceAfter, roomAfter}
 use Rattle.rules.specs.Promise.{Ruled, MovesToEmpty}
-use Rattle.rules.specs.Samples.{sheet, P1, p1}
-use Rattle.rules.specs.Computed.{p1-accepted}
+use Rattle.rules.specs.Samples.{sheet, P1, p1, stones, onStones}
+use Rattle.rules.specs.Computed.{p1-accepted, stones-accepted}
 use Rattle.rules.specs.declared.Played.{Played}
 use Rattle.rules.specs.declared.Verdict.the-variants.{Accepted}
 use Rattle.rules.proofs.Steps.{got-inj}
@@ -23,13 +25,20 @@ use Rattle.sheet.proofs.Promise.{covers-play}
 abbrev pub lent : List ℕ
 lent = replicate leastWorkspace 0
 
--- judge returns that it accepts P1
-pub p1-judged : JudgeKept lent (sheet P1) (Accepted (counts p1)) (workspaceAfter lent)
+-- judge returns that it accepts a text, and so play's promise holds
+judged-accepted : (t : Bytes) (s : Sheet) → accepted leastWorkspace t ≡ got s → JudgeKept lent t (Accepted (counts s)) (workspaceAfter lent)
 unfolding judge judged
-p1-judged = record { reply = rw (length-replicate {A = ℕ} leastWorkspace 0, p1-accepted) refl; memory = refl }
+judged-accepted t s e = record { reply = rw (length-replicate {A = ℕ} leastWorkspace 0, e) refl; memory = refl }
+
+promised : (t : Bytes) (s : Sheet) → accepted leastWorkspace t ≡ got s → Promised t (counts s .waits)
+promised t s e = covers-play lent t (counts s) (workspaceAfter lent) (judged-accepted t s e)
 
 pub p1-promised : Promised (sheet P1) (counts p1 .waits)
-p1-promised = covers-play lent (sheet P1) (counts p1) (workspaceAfter lent) p1-judged
+p1-promised = promised (sheet P1) p1 p1-accepted
+
+-- from set-up stones of both sides too
+pub stones-promised : Promised (sheet stones) (counts onStones .waits)
+stones-promised = promised (sheet stones) onStones stones-accepted
 
 -- the promise is P1's
 same-sheet : p1-promised .sheet ≡ p1

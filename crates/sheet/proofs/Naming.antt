@@ -1,7 +1,7 @@
 -- Outcome's checks one after another, the cells that it lists, and what it replies.
 use mathlib.Core.Path.{_≡_, sym, ap, _∙_, subst, subst⁻¹}
-use mathlib.Core.Bool.{Bool, false, _||_}
-use mathlib.Core.List.{List, [], _++_}
+use mathlib.Core.Bool.{Bool, _||_}
+use mathlib.Core.List.{List, [], _++_, append-assoc}
 use Prim.Native.Nat.{ℕ, _≤_, _<_}
 use native.Mathlib.Omega.{arith}
 use lib.ListN.{length, getD, drop, replicate}
@@ -10,7 +10,7 @@ use Rattle.rules.specs.Sizes.{leastWorkspace}
 use Rattle.rules.specs.Words.{among}
 use Rattle.rules.specs.Text.{Bytes}
 use Rattle.rules.specs.Board.{listed}
-use Rattle.rules.specs.Tree.{Sheet, stone}
+use Rattle.rules.specs.Tree.{Sheet, stone, ownCells, atStart}
 use Rattle.rules.specs.Reading.{Result, refused, got}
 use Rattle.rules.specs.Outcomes.{outcomes, outcomeCount, outcomesOfWaits}
 use Rattle.rules.specs.Entries.{_>>=_, refuseIf, readTextUpTo, readText, readUpTo, fair, outcomeCells, OutcomeReply, named, outcome, outcomeShown, workspaceAfter, roomAfter, OutcomeKept}
@@ -18,10 +18,12 @@ use Rattle.rules.specs.declared.Board.{Board}
 use Rattle.rules.specs.declared.Named.{Named}
 use Rattle.rules.specs.declared.Verdict.{Verdict}
 use Rattle.rules.specs.declared.Verdict.the-variants.{Done, SmallWorkspace, NoSuchOutcome, ShortRoom}
+use Rattle.rules.proofs.Lists.{among-append}
 use Rattle.rules.proofs.Outcomes.{nth-outcome}
 use Rattle.cells.specs.Cells.{held, Listed}
 use Rattle.cells.proofs.Smallest.{listed-same}
-use Rattle.nodes.specs.Sheets.{HoldsSheet}
+use Rattle.nodes.specs.Sheets.{HoldsWhole}
+use Rattle.nodes.specs.declared.SetUp.{SetUp}
 use Rattle.outcomes.specs.Picking.{MovePick, SomeMovePick, MovePicked}
 use Rattle.judging.specs.Checked.{Passed}
 use Rattle.sheet.specs.Naming.{listing, naming, HasOutcome, SomeOutcome, NamedKept}
@@ -33,16 +35,22 @@ unfolding roomAfter named
 kept-refused o v room r e q = record { reply-is = q ∙ ap outcomeShown (sym e); room-is = ap (λ (z : OutcomeReply). roomAfter (z .cells) room) (sym e) }
 
 -- the outcome that was picked, in the words of rules
-module _ {t : List ℕ} {b : Board} {s : Sheet} {number : ℕ} (h : HasOutcome t b s number) where
+module _ {t : List ℕ} {b : Board} {own : List ℕ} {s : Sheet} {number : ℕ} (h : HasOutcome t b own s number) where
   picks : MovePick b t 0 number (s .root .cell) (s .root .waits)
   unfolding outcomeCount
   picks = record { at = sheet-weighed (h .holds); numbered = record { below = h .numbered; few = h .few } }
 
-  pub picked-cells : (before after : List ℕ) → ((x : ℕ) → held b before x ≡ false) → MovePicked b t 0 number before after → listed b (held b after) ≡ outcomeCells s number
-  unfolding outcomeCells
-  picked-cells before after e p =
+  pub picked-cells : (after : List ℕ) → MovePicked b t 0 number own after → listed b (held b after) ≡ outcomeCells s number
+  unfolding outcomeCells atStart
+  picked-cells after p =
+      let o = getD (outcomesOfWaits (s .root .waits)) number [] in
+      let root = stone (s .root .cell) in
       listed-same b (held b after) (among (getD (outcomes s) number []))
-      (λ y i. p (s .root .cell) (s .root .waits) picks .held-are y ∙ ap (λ (z : Bool). z || among (stone (s .root .cell) ++ getD (outcomesOfWaits (s .root .waits)) number []) y) (e y) ∙ ap (λ (l : List ℕ). among l y) (sym (nth-outcome s number (h .numbered))))
+      (λ y i.
+      p (s .root .cell) (s .root .waits) picks .held-are y
+      ∙ ap (λ (z : Bool). z || among (root ++ o) y) (h .own-held .same y)
+      ∙ sym (among-append y (ownCells (s .set-up)) (root ++ o))
+      ∙ ap (λ (l : List ℕ). among l y) (sym (append-assoc (ownCells (s .set-up)) root o) ∙ sym (nth-outcome s number (h .numbered))))
       ∙ ap (λ (z : Board). listed z (among (getD (outcomes s) number []))) (sym (h .holds .on))
 
   -- 14, or the cells
@@ -71,10 +79,10 @@ module _ {t : List ℕ} {b : Board} {s : Sheet} {number : ℕ} (h : HasOutcome t
         placed : (cells ++ drop (length cells) room) ≡ roomAfter (outcomeCells s number) room
         placed = unfold roomAfter in ap (λ (z : List ℕ). z ++ drop (length z) room) same
 
-pub some-pick : {t : List ℕ} {b : Board} {number : ℕ} → SomeOutcome t b number → SomeMovePick b t 0 number
+pub some-pick : {t : List ℕ} {b : Board} {own : List ℕ} {number : ℕ} → SomeOutcome t b own number → SomeMovePick b t 0 number
 some-pick o = (o .sheet .root .cell, o .sheet .root .waits, picks (o .has))
 
--- 10, 11, 12 and 18 of a held sheet
+-- 20, 10, 11, 12 and 18 of a held sheet
 module _ (s : Sheet) (i room : ℕ) where
   pub naming-refused : (v : Verdict) → fair s ≡ refused v → naming s i room ≡ refused v
   unfolding naming _>>=_
@@ -133,5 +141,6 @@ pub kept-as : {o o′ : OutcomeReply} {room room′ : List ℕ} {r : Named} → 
 kept-as {o} {o′} {room} {room′} {r} e k = subst⁻¹ (λ (z : OutcomeReply). NamedKept z room r room′) e k
 
 -- a fair sheet that has the outcome
-pub has-outcome : {t : List ℕ} {b : Board} {s : Sheet} {number count : ℕ} → HoldsSheet t b s → Passed s (fair s) count → number < count → HasOutcome t b s number
-has-outcome h f l = record { holds = h; few = omega (arith, f .counted, f .few); numbered = omega (arith, f .counted) }
+pub has-outcome : {t : List ℕ} {b : Board} {u : SetUp} {s : Sheet} {number count : ℕ} → HoldsWhole t b u s → Passed s (fair s) count → number < count
+    → HasOutcome t b (u .own .rows) s number
+has-outcome h f l = record { holds = h .tree; own-held = h .set-up .stones .own-held; few = omega (arith, f .counted, f .few); numbered = omega (arith, f .counted) }

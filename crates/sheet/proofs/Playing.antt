@@ -22,6 +22,7 @@ use Rattle.answering.specs.Playing.{Playable, PlaysMoves, asPlayed}
 use Rattle.answering.specs.declared.PlayedOut.{PlayedOut}
 use Rattle.answering.specs.declared.PlayedOut.the-variants as out
 use Rattle.answering.proofs.Held.{held-playable, was-stopped, entry-reply, entry-played}
+use Rattle.nodes.specs.declared.SetUp.{SetUp}
 use Rattle.loading.specs.Held.{SheetHeld}
 use Rattle.loading.specs.Copied.{Copied}
 use Rattle.judging.specs.Checked.{passing, Tells}
@@ -101,7 +102,7 @@ unread t v e = text-accepted leastWorkspace t (omega arith) ∙ ap (λ (r : Resu
 pub play-unread : (t : Bytes) (moves : List ℕ) (room : ℕ) (v : Verdict) → readText t ≡ refused v → play leastWorkspace t moves room ≡ refusedPlay v 0
 play-unread t moves room v e = play-refused t moves room leastWorkspace v (unread t v e)
 
-module _ (t : Bytes) {table : List ℕ} {b : Board} {p : Player} (h : SheetHeld t table b p) where
+module _ (t : Bytes) {table : List ℕ} {b : Board} {p : Player} {u : SetUp} (h : SheetHeld t table b p u) where
   of-passing : (r : Result Sheet) → passing (h .sheet) ≡ r → accepted leastWorkspace t ≡ r
   unfolding _>>=_
   of-passing r e = text-accepted leastWorkspace t (omega arith) ∙ ap (λ (z : Result Sheet). z >>= passing) (h .reads) ∙ e
@@ -114,7 +115,7 @@ module _ (t : Bytes) {table : List ℕ} {b : Board} {p : Player} (h : SheetHeld 
     held-accepted count e = of-passing (got (h .sheet)) (passed-of (h .sheet) _ a k count e .passes)
 
     pub playable : (count : ℕ) → a ≡ FairRead.Got count → Playable table b p (h .sheet)
-    playable count e = held-playable leastWorkspace t (h .held) (h .for) (held-accepted count e)
+    playable count e = held-playable leastWorkspace t (h .whole .tree) (h .for) (held-accepted count e)
 
 -- play itself
 pub play-short : (ws : List ℕ) (t : Bytes) (moves room : List ℕ) (r : Played) → length ws < leastWorkspace → r ≡ playShown (refusedPlay SmallWorkspace 0)

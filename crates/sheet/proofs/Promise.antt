@@ -28,6 +28,7 @@ in-another w v t s l h =
       fair =
           record {
             read = record { sizes = record { enough = l; short = f .read .sizes .short }; spells = f .read .spells };
+            free = f .free;
             apart = f .apart;
             elusive = f .elusive;
             few = f .few;

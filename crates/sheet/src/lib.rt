@@ -6,7 +6,7 @@ ghost use Rattle.rules.specs.Text.{Bytes};
 ghost use lib.ListN.{length, replicate};
 ghost use Rattle.rules.specs.Sizes.{mostNodes, leastWorkspace};
 ghost use Rattle.rules.specs.Tree.{Sheet};
-ghost use Rattle.nodes.specs.Sheets.{HoldsSheet, SomeSheet};
+ghost use Rattle.nodes.specs.Sheets.{HoldsWhole, SomeWhole, HeldStones};
 ghost use Rattle.rules.specs.Answering.{start};
 ghost use Rattle.rules.specs.Entries.{judge, JudgeKept, named, outcome, outcomeShown, OutcomeKept, rounds, playedOut, refusedPlay, play, playShown, PlayKept};
 ghost use Rattle.answering.specs.Playing.{Playable, SomePlayable};
@@ -25,6 +25,7 @@ use judging::judge_table;
 use loading::SheetRead;
 use loading::clear;
 use loading::read_sheet;
+use nodes::SetUp;
 use outcomes::pick_move;
 use rules::Board;
 use rules::Named;
@@ -37,10 +38,12 @@ fn judge_text(sheet: &[u8], table: &mut [u32]) -> Verdict
     requires { ⌜ length (now table) ≡ leastWorkspace ⌝ }
     ensures { λ r. ⌜ r ≡ judge leastWorkspace (now (sheet .entry)) ⌝ }
 {
-    let read = read_sheet(sheet, table);
+    let loaded = read_sheet(sheet, table);
+    let read = loaded.read;
+    let setup = loaded.setup;
     match read {
         SheetRead::Refused { verdict } => verdict,
-        SheetRead::Got { board, player } => judge_table(table, board, player),
+        SheetRead::Got { board, player } => judge_table(table, board, player, setup),
     }
 }
 
@@ -71,12 +74,12 @@ fn unnamed(verdict: Verdict) -> Named
     Named { verdict, cells: 0 }
 }
 
-// Lists the cells of the outcome with a number of the sheet in the table: 14, or done.
-fn list_outcome(table: &[u32], board: Board, number: usize, room: &mut [u32]) -> Named
-    requires { ⌜ SomeOutcome (now table) board number ⌝ }
-    ensures { λ r. ⌜ ((s : Sheet) → HasOutcome (now (table .entry)) board s number → NamedKept (named (listing s number (length (now (room .entry))))) (now (room .entry)) r (now (room .exit))) ⌝ }
+// Lists the own set-up stones and the cells of the outcome with a number of the sheet in the table: 14, or done.
+fn list_outcome(table: &[u32], board: Board, own: Cells, number: usize, room: &mut [u32]) -> Named
+    requires { ⌜ SomeOutcome (now table) board (own .rows) number ⌝ }
+    ensures { λ r. ⌜ ((s : Sheet) → HasOutcome (now (table .entry)) board (own .rows) s number → NamedKept (named (listing s number (length (now (room .entry))))) (now (room .entry)) r (now (room .exit))) ⌝ }
 {
-    let cells = pick_move(table, board, 0, number, Cells::empty());
+    let cells = pick_move(table, board, 0, number, own);
     if room.len() < cells.count(board) {
         return unnamed(Verdict::ShortRoom);
     }
@@ -87,19 +90,20 @@ fn list_outcome(table: &[u32], board: Board, number: usize, room: &mut [u32]) ->
     }
 }
 
-// Names an outcome of the sheet in the table: 10, 11, 12, 18, 14, or done.
-fn name_outcome(table: &[u32], board: Board, number: u32, room: &mut [u32]) -> Named
-    requires { ⌜ SomeSheet (now table) board ⌝ }
-    ensures { λ r. ⌜ ((s : Sheet) → HoldsSheet (now (table .entry)) board s → NamedKept (named (naming s number (length (now (room .entry))))) (now (room .entry)) r (now (room .exit))) ⌝ }
+// Names an outcome of the sheet in the table: 20, 10, 11, 12, 18, 14, or done.
+fn name_outcome(table: &[u32], board: Board, setup: SetUp, number: u32, room: &mut [u32]) -> Named
+    requires { ⌜ SomeWhole (now table) board setup ⌝ }
+    ensures { λ r. ⌜ ((s : Sheet) → HoldsWhole (now (table .entry)) board setup s → NamedKept (named (naming s number (length (now (room .entry))))) (now (room .entry)) r (now (room .exit))) ⌝ }
 {
-    let read = fair_sheet(table, board);
+    let read = fair_sheet(table, board, setup);
     match read {
         FairRead::Refused { verdict } => unnamed(verdict),
         FairRead::Got { outcomes } => {
             if outcomes <= number {
                 return unnamed(Verdict::NoSuchOutcome);
             }
-            list_outcome(table, board, number as usize, room)
+            let own = setup.own;
+            list_outcome(table, board, own, number as usize, room)
         }
     }
 }
@@ -109,10 +113,12 @@ fn outcome_text(sheet: &[u8], number: u32, room: &mut [u32], table: &mut [u32]) 
     requires { ⌜ length (now table) ≡ leastWorkspace ⌝ }
     ensures { λ r. ⌜ NamedKept (outcome leastWorkspace (now (sheet .entry)) number (length (now (room .entry)))) (now (room .entry)) r (now (room .exit)) ⌝ }
 {
-    let read = read_sheet(sheet, table);
+    let loaded = read_sheet(sheet, table);
+    let read = loaded.read;
+    let setup = loaded.setup;
     match read {
         SheetRead::Refused { verdict } => unnamed(verdict),
-        SheetRead::Got { board, player: _ } => name_outcome(table, board, number, room),
+        SheetRead::Got { board, player: _ } => name_outcome(table, board, setup, number, room),
     }
 }
 
@@ -163,16 +169,18 @@ fn play_apart(
     table: &mut [u32],
     board: Board,
     player: Player,
+    own: Cells,
+    opp: Cells,
     moves: &[u32],
     answers: &mut [u32],
     room: &mut [u32],
 ) -> Played
-    requires holds { ⌜ SomePlayable (now table) board player ⌝ }
+    requires holds { ⌜ SomePlayable (now table) board player own opp ⌝ }
     requires kept { ⌜ mostNodes ≤ length (now answers) ⌝ }
     requires enough { ⌜ length (now moves) ≤ length (now room) ⌝ }
-    ensures { λ r. ⌜ ((s : Sheet) → Playable (now (table .entry)) board player s → PlayedKept (playedOut s (rounds s (start s) 1 (now (moves .entry)))) (now (room .entry)) r (now (room .exit))) ⌝ }
+    ensures { λ r. ⌜ ((s : Sheet) → Playable (now (table .entry)) board player s → HeldStones board (s .set-up) own opp → PlayedKept (playedOut s (rounds s (start s) 1 (now (moves .entry)))) (now (room .entry)) r (now (room .exit))) ⌝ }
 {
-    let played = play_moves(table, board, player, moves, answers);
+    let played = play_moves(table, board, player, own, opp, moves, answers);
     match played {
         PlayedOut::Stopped { verdict, place } => unplayed(verdict, place),
         PlayedOut::Played {
@@ -195,36 +203,41 @@ fn play_table(
     table: &mut [u32],
     board: Board,
     player: Player,
+    own: Cells,
+    opp: Cells,
     moves: &[u32],
     room: &mut [u32],
 ) -> Played
-    requires holds { ⌜ SomePlayable (now table) board player ⌝ }
+    requires holds { ⌜ SomePlayable (now table) board player own opp ⌝ }
     requires enough { ⌜ length (now moves) ≤ length (now room) ⌝ }
-    ensures { λ r. ⌜ ((s : Sheet) → Playable (now (table .entry)) board player s → PlayedKept (playedOut s (rounds s (start s) 1 (now (moves .entry)))) (now (room .entry)) r (now (room .exit))) ⌝ }
+    ensures { λ r. ⌜ ((s : Sheet) → Playable (now (table .entry)) board player s → HeldStones board (s .set-up) own opp → PlayedKept (playedOut s (rounds s (start s) 1 (now (moves .entry)))) (now (room .entry)) r (now (room .exit))) ⌝ }
 {
     let mut answers = [0u32; 2048];
-    play_apart(table, board, player, moves, &mut answers, room)
+    play_apart(table, board, player, own, opp, moves, &mut answers, room)
 }
 
-// Plays the sheet in the table: 10 to 13, 14, and then for each move in turn 15, 16, 17; or done.
+// Plays the sheet in the table: 20, 10 to 13, 14, and then for each move in turn 15, 16, 17; or done.
 fn play_sheet(
     table: &mut [u32],
     board: Board,
     player: Player,
+    setup: SetUp,
     moves: &[u32],
     room: &mut [u32],
 ) -> Played
-    requires { ⌜ SomeText (now table) board player ⌝ }
-    ensures { λ r. ⌜ ((text : Bytes) → SheetHeld text (now (table .entry)) board player → PlayedKept (play leastWorkspace text (now (moves .entry)) (length (now (room .entry)))) (now (room .entry)) r (now (room .exit))) ⌝ }
+    requires { ⌜ SomeText (now table) board player setup ⌝ }
+    ensures { λ r. ⌜ ((text : Bytes) → SheetHeld text (now (table .entry)) board player setup → PlayedKept (play leastWorkspace text (now (moves .entry)) (length (now (room .entry)))) (now (room .entry)) r (now (room .exit))) ⌝ }
 {
-    let accepted = accept_sheet(table, board, player);
+    let accepted = accept_sheet(table, board, player, setup);
     match accepted {
         FairRead::Refused { verdict } => unplayed(verdict, 0),
         FairRead::Got { outcomes: _ } => {
             if room.len() < moves.len() {
                 return unplayed(Verdict::ShortRoom, 0);
             }
-            play_table(table, board, player, moves, room)
+            let own = setup.own;
+            let opp = setup.opp;
+            play_table(table, board, player, own, opp, moves, room)
         }
     }
 }
@@ -234,10 +247,12 @@ fn play_text(sheet: &[u8], moves: &[u32], room: &mut [u32], table: &mut [u32]) -
     requires { ⌜ length (now table) ≡ leastWorkspace ⌝ }
     ensures { λ r. ⌜ PlayedKept (play leastWorkspace (now (sheet .entry)) (now (moves .entry)) (length (now (room .entry)))) (now (room .entry)) r (now (room .exit)) ⌝ }
 {
-    let read = read_sheet(sheet, table);
+    let loaded = read_sheet(sheet, table);
+    let read = loaded.read;
+    let setup = loaded.setup;
     match read {
         SheetRead::Refused { verdict } => unplayed(verdict, 0),
-        SheetRead::Got { board, player } => play_sheet(table, board, player, moves, room),
+        SheetRead::Got { board, player } => play_sheet(table, board, player, setup, moves, room),
     }
 }
 

@@ -1,30 +1,29 @@
 -- At the loop's head the game so far is that of the first i moves; the measure is how many are left.
 use borrow.Author.Needs.{needs, scaled-fits}
 use mathlib.Core.Path.{_≡_, refl, sym, ap, _∙_}
-use mathlib.Core.Bool.{Bool, _||_}
-use Prim.Native.Nat.{ℕ, _+_, _-_, _*_, _^_, _<_}
+use Prim.Native.Nat.{_+_, _-_, _*_, _^_, _<_}
 use native.Mathlib.Omega.{arith}
 use lib.Dec.{T}
 use lib.ListN.{length}
 use mir.Val.{Fits}
 use mir.Syntax.{w64}
 use Rattle.rules.specs.Board.{isCell}
-use Rattle.rules.specs.Tree.{stone}
-use Rattle.rules.specs.Words.{among}
+use Rattle.rules.specs.Tree.{Sheet}
 use Rattle.rules.specs.Reading.{got}
 use Rattle.rules.proofs.Places.{cell-range}
 use Rattle.cells.specs.Cells.{held}
 use Rattle.cells.proofs.Places.{few-cells}
+use Rattle.nodes.specs.Sheets.{HeldStones}
 use Rattle.answering.specs.Rows.{Remarked}
 use Rattle.answering.specs.Playing.{Playable, refusalOf, checked}
 use Rattle.answering.proofs.Rows.{remarked-self, same-back, remarked-twice, at-ended}
-use Rattle.answering.proofs.Playing.{Going, playable-same, board-fits, root-ended, started-open, playing-starts, playing-stopped, playing-done, playing-few, playing-cell, playing-asked, playing-rows, playing-answer, playing-again, Wrote, wrote-long}
+use Rattle.answering.proofs.Playing.{Playing, StartAt, start-at, Going, playable-same, board-fits, root-ended, started-open, playing-starts, playing-stopped, playing-done, playing-few, playing-cell, playing-asked, playing-rows, playing-answer, playing-again, Wrote, wrote-long}
 use Rattle.answering.proofs.play_moves.Statement.{statement}
 use Rattle.answering.proofs.play_moves.Tie as tie
 
 abbrev Inv-loop : tie.InvT-loop
 Inv-loop t₀ board player moves room₀ root mine₀ theirs₀ i₀ t room mine theirs i =
-    Going board player moves t₀ room₀ t room (mine .rows) (theirs .rows) i
+    Going board player moves t₀ room₀ (mine₀ .rows) (theirs₀ .rows) t room (mine .rows) (theirs .rows) i
 
 abbrev μ-loop : tie.MeasureT-loop
 μ-loop t₀ board player moves room₀ root mine₀ theirs₀ i₀ t room mine theirs i = length moves - i
@@ -34,7 +33,7 @@ abbrev entry : tie.After-open-start Inv-loop μ-loop → tie.Start Inv-loop μ-l
 entry c = c .before .before .before .before .before
 
 abbrev opened : tie.At-loop Inv-loop μ-loop → tie.After-open-start Inv-loop μ-loop
-opened c = c .before .before .before .before .before .before .before .before
+opened c = c .before .before .before .before .before .before
 
 abbrev turn : tie.After-refused-move Inv-loop μ-loop → tie.In-loop Inv-loop μ-loop
 turn c = c .before .before .before
@@ -63,34 +62,33 @@ sheet-of c = playable-same (begun c .rows) (entry c .pre .0 .playable)
 cell-at-requires : tie.Need-cell-at-requires Inv-loop μ-loop
 cell-at-requires c κs = sheet-of (c .before .before .before) .root .here .row .room
 
-empty-requires : tie.Need-empty-requires Inv-loop μ-loop
-empty-requires c κs = tt
-
 with-stone-requires : tie.Need-with-stone-requires Inv-loop μ-loop
 with-stone-requires c κs =
-    let h = sheet-of (c .before .before .before .before .before) in
-    (board-fits h, omega (arith, h .root .here .row .cell, h .root .here .on, c .before .cell-at .ensures))
-
-empty-requires-2 : tie.Need-empty-requires-2 Inv-loop μ-loop
-empty-requires-2 c κs = tt
+    let h = sheet-of (c .before .before .before .before) in
+    (board-fits h, omega (arith, h .root .here .row .cell, h .root .here .on, c .cell-at .ensures))
 
 loop-holds : tie.Need-loop-holds Inv-loop μ-loop
 loop-holds c =
-    let o = c .before .before .before .before .before .before .before in
+    let o = c .before .before .before .before .before in
     record {
       turns = omega arith;
       rows = remarked-self _;
       long = refl;
-      plays = λ s h.
+      plays = λ s h st.
           let k = playable-same (same-back (begun o .rows)) h in
-          let b = entry o .args .board in
-          playing-starts _ (started-open k (o .open-start .ensures _ _ (at-ended (k .root))) .1)
-          (λ x.
-          c .before .with-stone .ensures x
-          ∙ ap (λ (y : Bool). y || among (stone (c .before .before .before .cell-at .result)) x) (c .before .before .empty .ensures .1 b x)
-          ∙ ap (λ (y : ℕ). among (stone y) x) (c .before .before .before .cell-at .ensures ∙ h .root .here .row .cell))
-          (c .empty2 .ensures .1 b);
+          playing-starts _ (started-open k (o .open-start .ensures _ _ (at-ended (k .root))) .1) st;
     }
+
+-- the sets where the loop begins
+started : (c : tie.At-loop Inv-loop μ-loop) (s : Sheet) → Playable (opened c .open-start .last .0) (entry (opened c) .args .board) (entry (opened c) .args .player) s
+    → HeldStones (entry (opened c) .args .board) (s .set-up) (entry (opened c) .args .own) (entry (opened c) .args .opp)
+    → StartAt (entry (opened c) .args .board) s (c .before .with-stone .result .rows) (entry (opened c) .args .opp .rows)
+started c s h st = start-at _ s _ _ _ _ st (c .before .before .cell-at .ensures ∙ h .root .here .row .cell) (c .before .with-stone .ensures)
+
+-- the game so far of the sheet that is held
+game-of : (c : tie.At-loop Inv-loop μ-loop) → Playing (entry (opened c) .args .board) (entry (opened c) .pre .0 .sheet) (entry (opened c) .args .moves .now)
+    (entry (opened c) .args .room .now) (c .loop .t) (c .loop .room) (c .loop .mine .rows) (c .loop .theirs .rows) (c .loop .i)
+game-of c = c .loop .inv .plays _ (sheet-of (opened c)) (started c _ (sheet-of (opened c)) (entry (opened c) .pre .0 .stones))
 
 one-further : (c : tie.In-loop Inv-loop μ-loop) → Fits w64 (c .before .loop .i + 1)
 one-further c = record { fits = omega arith }
@@ -124,12 +122,12 @@ same-length-2 : tie.Need-same-length-2 Inv-loop μ-loop
 same-length-2 c = turn (c .before .before .before) .before .loop .inv .long
 
 returns : tie.Need-returns Inv-loop μ-loop
-returns c = λ s h.
+returns c = λ s h st.
     let r = c .before .before .before in
     let l = turn r .before in
     let b = begun (opened l) in
     let k = playable-same (b .rows) h in
-    playing-stopped k (l .loop .inv .plays s k) (turn r .loop-test .taken) _ (r .before .wide .ensures)
+    playing-stopped k (l .loop .inv .plays s k (started l s k st)) (turn r .loop-test .taken) _ (r .before .wide .ensures)
     (sym (ap refusalOf (c .before .refused .given .1)) ∙ r .refused-move .ensures) (remarked-twice b (l .loop .inv .rows))
 
 enum-told : tie.Need-enum-told Inv-loop μ-loop
@@ -148,7 +146,7 @@ answer-to-requires : tie.Need-answer-to-requires Inv-loop μ-loop
 answer-to-requires c κs =
     let l = turn (tested (c .before)) .before in
     let h = sheet-of (opened l) in
-    let g = l .loop .inv .plays _ h in
+    let g = game-of l in
     let f = fine-move (c .before) in
     (cell-range _ _ (playing-cell h g _ f) .0, playing-asked h g _ f)
 
@@ -157,7 +155,7 @@ answer-cell : (c : tie.After-answer-to Inv-loop μ-loop) → T (isCell (entry (o
 answer-cell c =
     let l = turn (tested (told c)) .before in
     let h = sheet-of (opened l) in
-    playing-answer h (l .loop .inv .plays _ h) _ (fine-move (told c)) (c .answer-to .ensures)
+    playing-answer h (game-of l) _ (fine-move (told c)) (c .answer-to .ensures)
 
 with-requires : tie.Need-with-requires Inv-loop μ-loop
 with-requires c κs =
@@ -169,7 +167,7 @@ with-requires-2 c κs =
     let e = told (c .before .before .before) in
     let l = turn (tested e) .before in
     let h = sheet-of (opened l) in
-    (board-fits h, playing-cell h (l .loop .inv .plays _ h) _ (fine-move e))
+    (board-fits h, playing-cell h (game-of l) _ (fine-move e))
 
 cast-room : tie.Need-cast-room Inv-loop μ-loop
 cast-room c =
@@ -182,7 +180,7 @@ room-there : (c : tie.After-answer-to Inv-loop μ-loop) → turn (tested (told c
 room-there c =
     let l = turn (tested (told c)) .before in
     let h = sheet-of (opened l) in
-    omega (arith, playing-few h (l .loop .inv .plays _ h) _ (fine-move (told c)), entry (opened l) .pre .1, l .loop .inv .long)
+    omega (arith, playing-few h (game-of l) _ (fine-move (told c)), entry (opened l) .pre .1, l .loop .inv .long)
 
 room-small : (c : tie.Start Inv-loop μ-loop) → length (c .args .room .now) * 4 < 2 ^ 63
 room-small c = search needs
@@ -212,10 +210,10 @@ loop-again c =
     let put : Wrote (l .loop .room) _ (l .loop .i) (a .answer-to .result) = record { there = room-there a; stored = refl } in
     record {
       turns = omega (arith, q .loop-test .taken);
-      rows = remarked-twice (l .loop .inv .rows) (playing-rows h (l .loop .inv .plays _ h) _ f (a .answer-to .ensures));
+      rows = remarked-twice (l .loop .inv .rows) (playing-rows h (game-of l) _ f (a .answer-to .ensures));
       long = wrote-long put ∙ l .loop .inv .long;
-      plays = λ s k.
-          playing-again k (l .loop .inv .plays s k) _ f (a .answer-to .ensures) (q .loop-test .taken) (r .before .wide .ensures) (l .loop .inv .long)
+      plays = λ s k st.
+          playing-again k (l .loop .inv .plays s k st) _ f (a .answer-to .ensures) (q .loop-test .taken) (r .before .wide .ensures) (l .loop .inv .long)
           (c .before .with .ensures) (c .with2 .ensures) put;
     }
 
@@ -229,11 +227,11 @@ same-length-4 : tie.Need-same-length-4 Inv-loop μ-loop
 same-length-4 c = c .before .before .loop .inv .long
 
 returns-2 : tie.Need-returns-2 Inv-loop μ-loop
-returns-2 c = λ s h.
+returns-2 c = λ s h st.
     let l = c .before .before in
     let b = begun (opened l) in
     let k = playable-same (b .rows) h in
-    playing-done k (l .loop .inv .plays s k) (c .before .loop-test .left) (remarked-twice b (l .loop .inv .rows)) (c .joins .ensures)
+    playing-done k (l .loop .inv .plays s k (started l s k st)) (c .before .loop-test .left) (remarked-twice b (l .loop .inv .rows)) (c .joins .ensures)
 
 pub play-moves-spec : {M : Type 1} → statement M
 play-moves-spec =
@@ -243,9 +241,7 @@ play-moves-spec =
     μ-loop
     open-start-requires
     cell-at-requires
-    empty-requires
     with-stone-requires
-    empty-requires-2
     loop-holds
     mul-wide
     shared-slice-read-wide

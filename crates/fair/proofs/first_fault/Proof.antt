@@ -2,6 +2,7 @@
 use mathlib.Core.Path.{_∙_}
 use Prim.Native.Nat.{_-_, _≤_}
 use native.Mathlib.Omega.{arith}
+use Rattle.cells.specs.Cells.{held}
 use Rattle.nodes.proofs.Table.{node-end}
 use Rattle.nodes.proofs.Sheets.{sheet-fits, sheet-stands, sheet-end}
 use Rattle.fair.proofs.Search.{Searching, search-starts, search-node, search-again, search-found, search-ends, smallest-low}
@@ -9,16 +10,16 @@ use Rattle.fair.proofs.first_fault.Statement.{statement}
 use Rattle.fair.proofs.first_fault.Tie as tie
 
 abbrev Inv-loop : tie.InvT-loop
-Inv-loop table board test end i₀ i = (i ≤ end) × Searching test board table i end
+Inv-loop table board test stones end i₀ i = (i ≤ end) × Searching test (held board (stones .rows)) board table i end
 
 abbrev μ-loop : tie.MeasureT-loop
-μ-loop table board test end i₀ i = end - i
+μ-loop table board test stones end i₀ i = end - i
 
 end-at-requires : tie.Need-end-at-requires Inv-loop μ-loop
 end-at-requires c κs = sheet-stands (c .before .pre .held) .here .room
 
 loop-holds : tie.Need-loop-holds Inv-loop μ-loop
-loop-holds c = (omega arith, search-starts _ _ _ _ (c .end-at .ensures))
+loop-holds c = (omega arith, search-starts _ _ _ _ _ (c .end-at .ensures))
 
 faulty-at-requires : tie.Need-faulty-at-requires Inv-loop μ-loop
 faulty-at-requires c κs =
@@ -28,8 +29,8 @@ faulty-at-requires c κs =
 least-requires : tie.Need-least-requires Inv-loop μ-loop
 least-requires c κs = sheet-fits (c .before .before .before .before .before .pre .held)
 
-cast-t9 : tie.Need-cast-t9 Inv-loop μ-loop
-cast-t9 c =
+cast-t10 : tie.Need-cast-t10 Inv-loop μ-loop
+cast-t10 c =
     let s = c .before .before .before .before .before .before .before .pre in
     let e = c .before .least .ensures in
     omega (arith, e, smallest-low _ _ (sheet-fits (s .held)) (λ z. c .if1 .taken (e ∙ z)))
@@ -65,7 +66,7 @@ first-fault-spec =
     loop-holds
     faulty-at-requires
     least-requires
-    cast-t9
+    cast-t10
     returns
     add-i
     loop-less

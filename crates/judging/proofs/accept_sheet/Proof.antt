@@ -16,13 +16,14 @@ enum-known-read-2 c = search needs
 
 first-unjoined-requires : tie.Need-first-unjoined-requires
 first-unjoined-requires c κs =
-    let fair = c .before .before .before in
+    let told = c .before .before in
+    let fair = told .before .before in
     let pre = fair .before .before .pre in (
-      sheet-fits (pre .held),
+      sheet-fits (pre .whole .tree),
       (
         pre .sheet .root .cell,
         pre .sheet .root .waits,
-        countable (pre .held) _ (passed-of _ _ _ (fair .fair-sheet .ensures (pre .sheet) (pre .held)) _ (c .before .read2 .given .1)),
+        countable (pre .whole .tree) _ (passed-of _ _ _ (fair .fair-sheet .ensures (pre .sheet) (pre .whole)) _ (told .read2 .given .1)),
       ),
     )
 
@@ -32,20 +33,21 @@ enum-known-number c = search needs
 returns : tie.Need-returns
 returns c = λ s h same.
     let walk = c .before .before .before in
-    let told = walk .before .before in
-    accept-unjoined h _ same _ (told .before .before .fair-sheet .ensures s h) _ (told .read2 .given .1) _ (walk .first-unjoined .ensures) _ (c .before .number .given .1)
+    let told = walk .before .before .before in
+    accept-unjoined (h .tree) _ same _ (told .before .before .fair-sheet .ensures s h) _ (told .read2 .given .1) _ (h .set-up .stones .own-held) _ (walk .first-unjoined .ensures) _
+    (c .before .number .given .1)
 
 enum-told : tie.Need-enum-told
 enum-told c = search needs
 
 returns-2 : tie.Need-returns-2
-returns-2 c = λ s h same. accept-refused h _ same _ (c .before .before .before .fair-sheet .ensures s h) _ (c .before .read .given .1)
+returns-2 c = λ s h same. accept-refused (h .tree) _ same _ (c .before .before .before .fair-sheet .ensures s h) _ (c .before .read .given .1)
 
 returns-3 : tie.Need-returns-3
 returns-3 c = λ s h same.
     let walk = c .before .before in
-    let told = walk .before .before in
-    accept-got h _ same _ (told .before .before .fair-sheet .ensures s h) _ (told .read2 .given .1) _ (walk .first-unjoined .ensures) (c .enum-told .given .1)
+    let told = walk .before .before .before in
+    accept-got (h .tree) _ same _ (told .before .before .fair-sheet .ensures s h) _ (told .read2 .given .1) _ (h .set-up .stones .own-held) _ (walk .first-unjoined .ensures) (c .enum-told .given .1)
 
 pub accept-sheet-spec : {M : Type 1} → statement M
 accept-sheet-spec =

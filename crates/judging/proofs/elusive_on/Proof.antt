@@ -13,10 +13,10 @@ enum-known-node c = search needs
 line-of-requires : tie.Need-line-of-requires
 line-of-requires c κs =
     let pre = c .before .before .before .before .before .pre in
-    fault-low (c .before .before .before .not-elusive .ensures (pre .sheet) (pre .held)) (c .before .node .given .1)
+    (fault-low (c .before .before .before .not-elusive .ensures (pre .0 .sheet) (pre .0 .held)) (c .before .node .given .1), pre .1)
 
 returns : tie.Need-returns
-returns c = λ s h. not-elusive-told h _ (c .before .before .before .before .not-elusive .ensures s h) _ _ _ (c .before .before .node .given .1) (c .line-of .ensures)
+returns c = λ s h on. not-elusive-told h _ on _ (c .before .before .before .before .not-elusive .ensures s h) _ _ _ (c .before .before .node .given .1) (c .line-of .ensures)
 
 enum-told : tie.Need-enum-told
 enum-told c = search needs
@@ -25,7 +25,7 @@ few-on-requires : tie.Need-few-on-requires
 few-on-requires c κs = search needs
 
 returns-2 : tie.Need-returns-2
-returns-2 c = λ s h. elusive-told h _ (c .before .before .before .not-elusive .ensures s h) (c .before .enum-told .given .1) (c .few-on .result) (c .few-on .ensures s h)
+returns-2 c = λ s h on. elusive-told h _ on _ (c .before .before .before .not-elusive .ensures s h) (c .before .enum-told .given .1) (c .few-on .result) (c .few-on .ensures s h)
 
 pub elusive-on-spec : {M : Type 1} → statement M
 elusive-on-spec = tie.close (tie.spec not-elusive-requires enum-known-node line-of-requires returns enum-told few-on-requires returns-2)

@@ -1,31 +1,22 @@
--- `fair_sheet` meets its contract: 10, or what the checks after it tell.
+-- `fair_sheet` meets its contract: without set-up lines no move is on a stone; else what `free_on` tells.
 use borrow.Author.Needs.{needs}
-use Rattle.judging.proofs.Fairness.{fault-low, not-apart-told, apart-told}
+use Rattle.judging.proofs.Fairness.{none-told}
 use Rattle.judging.proofs.fair_sheet.Statement.{statement}
 use Rattle.judging.proofs.fair_sheet.Tie as tie
 
-not-apart-requires : tie.Need-not-apart-requires
-not-apart-requires c κs = search needs
-
-enum-known-node : tie.Need-enum-known-node
-enum-known-node c = search needs
-
-line-of-requires : tie.Need-line-of-requires
-line-of-requires c κs =
-    let pre = c .before .before .before .before .before .pre in
-    fault-low (c .before .before .before .not-apart .ensures (pre .sheet) (pre .held)) (c .before .node .given .1)
+apart-on-requires : tie.Need-apart-on-requires
+apart-on-requires c κs =
+    let pre = c .before .before .pre in
+    (record { sheet = pre .sheet; held = pre .whole .tree }, pre .whole .set-up .low)
 
 returns : tie.Need-returns
-returns c = λ s h. not-apart-told h _ (c .before .before .before .before .not-apart .ensures s h) _ _ _ (c .before .before .node .given .1) (c .line-of .ensures)
+returns c = λ s h. none-told (h .tree) _ (h .set-up .first-is) (c .before .if1 .taken) (c .apart-on .result) (c .apart-on .ensures s (h .tree) (h .set-up .first-is))
 
-enum-told : tie.Need-enum-told
-enum-told c = search needs
-
-elusive-on-requires : tie.Need-elusive-on-requires
-elusive-on-requires c κs = search needs
+free-on-requires : tie.Need-free-on-requires
+free-on-requires c κs = search needs
 
 returns-2 : tie.Need-returns-2
-returns-2 c = λ s h. apart-told h _ (c .before .before .before .not-apart .ensures s h) (c .before .enum-told .given .1) (c .elusive-on .result) (c .elusive-on .ensures s h)
+returns-2 c = search needs
 
 pub fair-sheet-spec : {M : Type 1} → statement M
-fair-sheet-spec = tie.close (tie.spec not-apart-requires enum-known-node line-of-requires returns enum-told elusive-on-requires returns-2)
+fair-sheet-spec = tie.close (tie.spec apart-on-requires returns free-on-requires returns-2)

@@ -17,14 +17,14 @@ enum-known-read-2 c = search needs
 judge-table-requires : tie.Need-judge-table-requires
 judge-table-requires c κs =
     let told = c .before .before in
-    let held = held-of _ _ _ _ _ (told .before .before .before .before .read-sheet .ensures .reply-is) (told .read2 .given .1) in
-    record { sheet = held .sheet; held = held .held }
+    let held = held-of _ _ _ _ (told .before .before .before .before .before .read-sheet .ensures .reply-is) _ _ (told .read2 .given .1) in
+    record { sheet = held .sheet; whole = held .whole }
 
 same-length : tie.Need-same-length
 same-length c = search needs
 
 returns : tie.Need-returns
-returns c = reply-refused _ _ (refused-of _ _ _ _ (c .before .before .before .before .before .read-sheet .ensures .reply-is) (c .before .read .given .1))
+returns c = reply-refused _ _ (refused-of _ _ _ _ (c .before .before .before .before .before .before .read-sheet .ensures .reply-is) _ (c .before .read .given .1))
 
 same-length-2 : tie.Need-same-length-2
 same-length-2 c = search needs
@@ -32,8 +32,8 @@ same-length-2 c = search needs
 returns-2 : tie.Need-returns-2
 returns-2 c =
     let told = c .before .before .before in
-    let held = held-of _ _ _ _ _ (told .before .before .before .before .read-sheet .ensures .reply-is) (told .read2 .given .1) in
-    reply-sheet _ (held .sheet) _ (held .reads) (c .judge-table .ensures (held .sheet) (held .held) (held .for))
+    let held = held-of _ _ _ _ (told .before .before .before .before .before .read-sheet .ensures .reply-is) _ _ (told .read2 .given .1) in
+    reply-sheet _ (held .sheet) _ (held .reads) (c .judge-table .ensures (held .sheet) (held .whole) (held .for))
 
 pub judge-text-spec : {M : Type 1} → statement M
 judge-text-spec =

@@ -31,10 +31,10 @@ returns c = λ s h.
 
 list-outcome-requires : tie.Need-list-outcome-requires
 list-outcome-requires c κs =
-    let told = c .before .before .before in
+    let told = c .before .before .before .before in
     let pre = told .before .before .before .before .before .pre in
-    let f = passed-of _ _ _ (told .before .before .fair-sheet .ensures (pre .sheet) (pre .held)) _ (told .read2 .given .1) in
-    record { sheet = pre .sheet; has = has-outcome (pre .held) f (c .before .if1 .left) }
+    let f = passed-of _ _ _ (told .before .before .fair-sheet .ensures (pre .sheet) (pre .whole)) _ (told .read2 .given .1) in
+    record { sheet = pre .sheet; has = has-outcome (pre .whole) f (c .before .before .if1 .left) }
 
 returns-2 : tie.Need-returns-2
 returns-2 c = λ s h.
@@ -47,7 +47,7 @@ same-length c = search needs
 returns-3 : tie.Need-returns-3
 returns-3 c = λ s h.
     let list = c .before .before in
-    let other = list .before .before in
+    let other = list .before .before .before in
     let told = other .before .before in
     let f = passed-of _ _ _ (told .before .before .fair-sheet .ensures s h) _ (told .read2 .given .1) in
     let has = has-outcome h f (other .if1 .left) in

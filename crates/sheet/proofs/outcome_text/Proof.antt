@@ -20,8 +20,8 @@ enum-known-read-2 c = search needs
 name-outcome-requires : tie.Need-name-outcome-requires
 name-outcome-requires c κs =
     let told = c .before .before .before in
-    let held = held-of _ _ _ _ _ (told .before .before .before .before .read-sheet .ensures .reply-is) (told .read2 .given .1) in
-    record { sheet = held .sheet; held = held .held }
+    let held = held-of _ _ _ _ (told .before .before .before .before .before .read-sheet .ensures .reply-is) _ _ (told .read2 .given .1) in
+    record { sheet = held .sheet; whole = held .whole }
 
 same-length : tie.Need-same-length
 same-length c = search needs
@@ -29,7 +29,7 @@ same-length c = search needs
 returns : tie.Need-returns
 returns c =
     let told = c .before .before in
-    kept-refused _ _ _ _ (outcome-refused _ _ _ _ (refused-of _ _ _ _ (told .before .before .before .before .read-sheet .ensures .reply-is) (told .read .given .1))) (c .unnamed .ensures)
+    kept-refused _ _ _ _ (outcome-refused _ _ _ _ (refused-of _ _ _ _ (told .before .before .before .before .before .read-sheet .ensures .reply-is) _ (told .read .given .1))) (c .unnamed .ensures)
 
 same-length-2 : tie.Need-same-length-2
 same-length-2 c = search needs
@@ -41,8 +41,8 @@ returns-2 : tie.Need-returns-2
 returns-2 c =
     let call = c .before .before in
     let told = call .before .before .before .before in
-    let held = held-of _ _ _ _ _ (told .before .before .before .before .read-sheet .ensures .reply-is) (told .read2 .given .1) in
-    kept-as (outcome-sheet _ _ _ (held .sheet) (held .reads)) (call .name-outcome .ensures (held .sheet) (held .held))
+    let held = held-of _ _ _ _ (told .before .before .before .before .before .read-sheet .ensures .reply-is) _ _ (told .read2 .given .1) in
+    kept-as (outcome-sheet _ _ _ (held .sheet) (held .reads)) (call .name-outcome .ensures (held .sheet) (held .whole))
 
 pub outcome-text-spec : {M : Type 1} → statement M
 outcome-text-spec =

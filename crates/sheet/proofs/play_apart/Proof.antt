@@ -21,7 +21,7 @@ enum-known-played-2 c = search needs
 write-answers-requires : tie.Need-write-answers-requires
 write-answers-requires c κs =
     let pre = c .before .before .before .before .before .before .before .before .before .before .before .before .before .before .before .before .pre in
-    let k = c .before .before .before .before .before .before .before .before .before .play-moves .ensures (pre .0 .sheet) (pre .0 .playable) in
+    let k = c .before .before .before .before .before .before .before .before .before .play-moves .ensures (pre .0 .sheet) (pre .0 .playable) (pre .0 .stones) in
     let told = c .before .before .before .played2 .given .1 in
     (omega (arith, apart-kept (pre .0 .sheet) k _ _ told), omega (arith, apart-few (pre .0 .sheet) k _ _ told, pre .1 .1))
 
@@ -32,7 +32,7 @@ same-length-2 : tie.Need-same-length-2
 same-length-2 c = search needs
 
 returns : tie.Need-returns
-returns c = λ s h. apart-stopped s (c .before .before .before .before .before .before .before .before .play-moves .ensures s h) _ _ _ _ (c .before .before .played .given .1) (c .unplayed .ensures)
+returns c = λ s h st. apart-stopped s (c .before .before .before .before .before .before .before .before .play-moves .ensures s h st) _ _ _ _ (c .before .before .played .given .1) (c .unplayed .ensures)
 
 same-length-3 : tie.Need-same-length-3
 same-length-3 c = search needs
@@ -44,9 +44,9 @@ same-length-5 : tie.Need-same-length-5
 same-length-5 c = search needs
 
 returns-2 : tie.Need-returns-2
-returns-2 c = λ s h.
+returns-2 c = λ s h st.
     let told = c .before .before .before .before .before .before in
-    apart-played s (told .before .before .before .before .before .before .play-moves .ensures s h) _ _ (told .played2 .given .1) _ _ _ (c .before .before .before .before .before .before .before .before .before .before .before .before .before .before .before .before .before .before .before .pre .1 .1) (c .before .before .write-answers .ensures) refl
+    apart-played s (told .before .before .before .before .before .before .play-moves .ensures s h st) _ _ (told .played2 .given .1) _ _ _ (c .before .before .before .before .before .before .before .before .before .before .before .before .before .before .before .before .before .before .before .pre .1 .1) (c .before .before .write-answers .ensures) refl
 
 pub play-apart-spec : {M : Type 1} → statement M
 play-apart-spec =

@@ -20,7 +20,7 @@ enum-known-read-2 c = search needs
 play-sheet-requires : tie.Need-play-sheet-requires
 play-sheet-requires c κs =
     let told = c .before .before .before in
-    record { text = _; held = held-of _ _ _ _ _ (told .before .before .before .before .read-sheet .ensures .reply-is) (told .read2 .given .1) }
+    record { text = _; held = held-of _ _ _ _ (told .before .before .before .before .before .read-sheet .ensures .reply-is) _ _ (told .read2 .given .1) }
 
 same-length : tie.Need-same-length
 same-length c = search needs
@@ -28,7 +28,7 @@ same-length c = search needs
 returns : tie.Need-returns
 returns c =
     let told = c .before .before in
-    played-refused _ _ _ _ _ (play-unread _ _ _ _ (refused-of _ _ _ _ (told .before .before .before .before .read-sheet .ensures .reply-is) (told .read .given .1))) (c .unplayed .ensures)
+    played-refused _ _ _ _ _ (play-unread _ _ _ _ (refused-of _ _ _ _ (told .before .before .before .before .before .read-sheet .ensures .reply-is) _ (told .read .given .1))) (c .unplayed .ensures)
 
 same-length-2 : tie.Need-same-length-2
 same-length-2 c = search needs
@@ -40,7 +40,7 @@ returns-2 : tie.Need-returns-2
 returns-2 c =
     let call = c .before .before .before .before in
     let told = call .before .before .before .before in
-    call .play-sheet .ensures _ (held-of _ _ _ _ _ (told .before .before .before .before .read-sheet .ensures .reply-is) (told .read2 .given .1))
+    call .play-sheet .ensures _ (held-of _ _ _ _ (told .before .before .before .before .before .read-sheet .ensures .reply-is) _ _ (told .read2 .given .1))
 
 pub play-text-spec : {M : Type 1} → statement M
 play-text-spec =

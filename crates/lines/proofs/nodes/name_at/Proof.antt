@@ -1,9 +1,9 @@
 -- `lines::nodes::name_at` meets its contract. A cell; where there is none and `-` may stand, `-`.
-use mathlib.Core.Option.{none}
+use mathlib.Core.Option.{none, some}
 use borrow.Author.Tests.{not-true, not-false}
 use Rattle.rules.specs.Text.{word}
-use Rattle.lines.specs.Parts.{dashed}
-use Rattle.lines.specs.Seen.{nextSeen, cellSeen}
+use Rattle.lines.specs.Parts.{aCell, dashed}
+use Rattle.lines.specs.Seen.{nextSeen, placeSeen}
 use Rattle.lines.proofs.Steps.{halt, finish, seen, as-well, last-byte}
 use Rattle.lines.proofs.NodeParts.{name-cell, name-none, name-dash}
 use borrow.Author.Needs.{needs}
@@ -13,19 +13,21 @@ use Rattle.lines.proofs.nodes.name_at.Tie as tie
 place-at-requires : tie.Need-place-at-requires
 place-at-requires c κs = search needs
 
-enum-known-cell : tie.Need-enum-known-cell
-enum-known-cell c = search needs
+enum-known-column : tie.Need-enum-known-column
+enum-known-column c = search needs
 
 returns : tie.Need-returns
-returns c = name-cell _ (seen cellSeen (c .before .before .before .place-at .ensures) (c .before .cell .given .1))
+unfolding aCell
+returns c = name-cell _ (finish some (seen placeSeen (c .before .before .before .place-at .ensures) (c .before .column .given .1)))
 
 enum-told : tie.Need-enum-told
 enum-told c = search needs
 
 returns-2 : tie.Need-returns-2
+unfolding aCell
 returns-2 c =
     let n = c .before in
-    name-none _ (not-true _ (c .if1 .taken)) (seen cellSeen (n .before .before .place-at .ensures) (n .enum-told .given .1))
+    name-none _ (not-true _ (c .if1 .taken)) (halt _ (seen placeSeen (n .before .before .place-at .ensures) (n .enum-told .given .1)))
 
 byte-at-requires : tie.Need-byte-at-requires
 byte-at-requires c κs = search needs
@@ -37,19 +39,19 @@ enum-told-2 : tie.Need-enum-told-2
 enum-told-2 c = search needs
 
 returns-3 : tie.Need-returns-3
-unfolding dashed word
+unfolding aCell dashed word
 returns-3 c =
     let d = c .before .before .before in
     let n = d .before in
-    name-dash _ (not-false _ (d .if1 .left)) (seen cellSeen (n .before .before .place-at .ensures) (n .enum-told .given .1))
+    name-dash _ (not-false _ (d .if1 .left)) (halt _ (seen placeSeen (n .before .before .place-at .ensures) (n .enum-told .given .1)))
     (halt _ (as-well (last-byte _) (seen nextSeen (c .before .before .byte-at .ensures) (c .enum-told2 .given .1))))
 
 returns-4 : tie.Need-returns-4
-unfolding dashed word
+unfolding aCell dashed word
 returns-4 c =
     let d = c .before .before .before .before in
     let n = d .before in
-    name-dash _ (not-false _ (d .if1 .left)) (seen cellSeen (n .before .before .place-at .ensures) (n .enum-told .given .1))
+    name-dash _ (not-false _ (d .if1 .left)) (halt _ (seen placeSeen (n .before .before .place-at .ensures) (n .enum-told .given .1)))
     (finish (λ _. none) (as-well (last-byte _) (seen nextSeen (c .before .before .before .byte-at .ensures) (c .before .next .given .1))))
 
 pub name-at-spec : {M : Type 1} → statement M
@@ -57,7 +59,7 @@ name-at-spec =
     tie.close
     (tie.spec
     place-at-requires
-    enum-known-cell
+    enum-known-column
     returns
     enum-told
     returns-2

@@ -1,7 +1,5 @@
 -- `lines::nodes::place_at` meets its contract. The letter, then the number.
-use mathlib.Core.Option.{some}
 use Rattle.rules.specs.Lines.{place}
-use Rattle.lines.specs.Parts.{aCell}
 use Rattle.lines.specs.Seen.{numberSeen}
 use Rattle.lines.proofs.Steps.{step, halt, finish, seen}
 use borrow.Author.Needs.{needs}
@@ -18,8 +16,8 @@ enum-told : tie.Need-enum-told
 enum-told c = search needs
 
 returns : tie.Need-returns
-unfolding aCell place
-returns c = halt _ (halt _ (seen numberSeen (c .before .before .letter-at .ensures) (c .enum-told .given .1)))
+unfolding place
+returns c = halt _ (seen numberSeen (c .before .before .letter-at .ensures) (c .enum-told .given .1))
 
 number-in-requires : tie.Need-number-in-requires
 number-in-requires c κs = search needs
@@ -31,18 +29,18 @@ enum-told-2 : tie.Need-enum-told-2
 enum-told-2 c = search needs
 
 returns-2 : tie.Need-returns-2
-unfolding aCell place
+unfolding place
 returns-2 c =
     let b = c .before .before .before in
-    halt _ (step _ (seen numberSeen (b .before .before .before .letter-at .ensures) (b .before .column .given .1))
-    (halt _ (seen numberSeen (c .before .before .number-in .ensures) (c .enum-told2 .given .1))))
+    step _ (seen numberSeen (b .before .before .before .letter-at .ensures) (b .before .column .given .1))
+    (halt _ (seen numberSeen (c .before .before .number-in .ensures) (c .enum-told2 .given .1)))
 
 returns-3 : tie.Need-returns-3
-unfolding aCell place
+unfolding place
 returns-3 c =
     let b = c .before .before .before .before in
-    finish some (step _ (seen numberSeen (b .before .before .before .letter-at .ensures) (b .before .column .given .1))
-    (finish _ (seen numberSeen (c .before .before .before .number-in .ensures) (c .before .row .given .1))))
+    step _ (seen numberSeen (b .before .before .before .letter-at .ensures) (b .before .column .given .1))
+    (finish _ (seen numberSeen (c .before .before .before .number-in .ensures) (c .before .row .given .1)))
 
 pub place-at-spec : {M : Type 1} → statement M
 place-at-spec =
