@@ -1,7 +1,7 @@
 -- The search for the first faulty node: a loop over the node numbers finds the fault that rules finds over the moves, or over the waits.
 use mathlib.Core.Path.{_≡_, refl, sym, ap, fun-ext, _∙_}
 use mathlib.Core.Logic.{_≢_}
-use mathlib.Core.Bool.{Bool, false}
+use mathlib.Core.Bool.{Bool}
 use mathlib.Core.Option.{Option, none, some}
 use Prim.Native.Nat.{ℕ, zero, suc, _+_, _*_, _<_, _≤_}
 use native.Mathlib.Nat.{mul-le-mul}
@@ -16,19 +16,18 @@ use Rattle.rules.specs.Words.{among}
 use Rattle.rules.specs.Tree.{Wait, Move, Sheet, setUpCells, everyMove, everyWait}
 use Rattle.rules.specs.Fair.{Fault, onSetUp, notApart, notElusive, faultAt, firstFault, firstOnSetUp, firstNotApart, firstNotElusive}
 use Rattle.rules.proofs.Tests.{snd}
-use Rattle.rules.proofs.Smallest.{smallest-zero}
-use Rattle.rules.proofs.Places.{cell-range}
-use Rattle.cells.specs.Cells.{held, Fits}
-use Rattle.cells.proofs.Smallest.{smallest-same, smallest-held}
+use Rattle.cells.specs.Cells.{Fits}
+use Rattle.cells.proofs.Smallest.{smallest-held}
 use Rattle.nodes.specs.Table.{endIn}
 use Rattle.nodes.specs.Order.{TreeNode, isMove, isWait, movesAmong, waitsAmong}
 use Rattle.nodes.specs.Sheets.{HoldsSheet, SomeSheet}
 use Rattle.nodes.proofs.Order.{waits-length, moves-of-waits, waits-of-waits}
 use Rattle.nodes.proofs.Sheets.{sheet-end}
-use Rattle.fair.specs.Faults.{notFree, firstBy, atMoves, atWaits, faultyBy, lineOf, NodeAt, SomeTreeNode, FoundAt, FaultFound}
+use Rattle.fair.specs.Faults.{notFree, firstBy, atMoves, atWaits, faultyBy, lineOf, NodeAt, SomeTreeNode, LeastAt, FaultFound}
 use Rattle.fair.specs.declared.Fault.the-variants.{At, Nothing}
 use Rattle.fair.specs.declared.Test.{Test}
 use Rattle.fair.specs.declared.Test.the-variants.{Free, Apart, Elusive}
+use Rattle.fair.proofs.WhichKind.{none-smallest}
 use Rattle.fair.proofs.Laid.{Laid, laidNode, treeOf, sheet-laid}
 
 -- the first node of a list is not faulty, or it is
@@ -51,12 +50,12 @@ moves-first : (b : Board) (faulty : Move → ℕ → Bool) (ns : List TreeNode) 
 unfolding movesAmong firstFault
 moves-first b faulty [] = refl
 moves-first b faulty (isMove m ∷ ns) = ap (orElse (faultAt (m .line) (smallest b (faulty m)))) (moves-first b faulty ns)
-moves-first b faulty (isWait w ∷ ns) = first-passed b lineOf (atMoves faulty) (isWait w) ns (smallest-zero b (λ x. false) (λ x i h. h)) ∙ moves-first b faulty ns
+moves-first b faulty (isWait w ∷ ns) = first-passed b lineOf (atMoves faulty) (isWait w) ns (none-smallest b) ∙ moves-first b faulty ns
 
 waits-first : (b : Board) (faulty : Wait → ℕ → Bool) (ns : List TreeNode) → firstFault b lineOf (atWaits faulty) ns ≡ firstFault b (λ (w : Wait). w .line) faulty (waitsAmong ns)
 unfolding waitsAmong firstFault
 waits-first b faulty [] = refl
-waits-first b faulty (isMove m ∷ ns) = first-passed b lineOf (atWaits faulty) (isMove m) ns (smallest-zero b (λ x. false) (λ x i h. h)) ∙ waits-first b faulty ns
+waits-first b faulty (isMove m ∷ ns) = first-passed b lineOf (atWaits faulty) (isMove m) ns (none-smallest b) ∙ waits-first b faulty ns
 waits-first b faulty (isWait w ∷ ns) = ap (orElse (faultAt (w .line) (smallest b (faulty w)))) (waits-first b faulty ns)
 
 tree-moves : (faulty : Move → ℕ → Bool) (s : Sheet) → firstFault (s .board) (λ (m : Move). m .line) faulty (everyMove s) ≡ firstFault (s .board) lineOf (atMoves faulty) (treeOf s)
@@ -72,6 +71,14 @@ tree-first Apart stones s = tree-moves notApart s
 tree-first Elusive stones s =
     ap (λ (l : List Wait). firstFault (s .board) (λ (w : Wait). w .line) notElusive l) (sym (waits-of-waits (s .root .waits)))
     ∙ sym (waits-first (s .board) notElusive (treeOf s))
+
+-- a smallest cell is at most the board's last one
+smallest-low : (b : Board) (set : ℕ → Bool) → Fits b → smallest b set ≢ 0 → smallest b set ≤ 361
+unfolding isCell cells
+smallest-low b set f z =
+    let i = smallest-held b set z .0 in
+    let most : b .columns * b .rows ≤ 19 * 19 = mul-le-mul {n₂ = 19} {m₂ = 19} (f .few-columns) (f .few-rows) in
+    omega (arith, leb→le (smallest b set) (b .columns * b .rows) (snd (leb 1 (smallest b set)) (leb (smallest b set) (b .columns * b .rows)) i))
 
 -- of a held sheet, the nodes from i on are left, and its first fault is theirs
 pub record Left (test : Test) (stones : ℕ → Bool) (b : Board) (t : List ℕ) (i end : ℕ) (s : Sheet) : Type 0 where
@@ -116,9 +123,13 @@ module _ {test : Test} {stones : ℕ → Bool} {b : Board} {t : List ℕ} {i end
       let n = next-node p (w (s .sheet) (s .held)) in
       record { node = n .node; at = n .at }
 
-  module _ (p : i < end) (rows : List ℕ) (found : FoundAt (faultyBy test stones) b t i rows) (c : ℕ) (e : c ≡ smallest b (held b rows)) where
-    its-cell : (n : TreeNode) → NodeAt b t i n → smallest b (faultyBy test stones n) ≡ c
-    its-cell n a = sym (e ∙ smallest-same b (held b rows) (faultyBy test stones n) (λ y k. found n a y (cell-range b y k .0)))
+  module _ (p : i < end) (c : ℕ) (e : LeastAt (faultyBy test stones) b t i c) where
+    -- a cell is at most the board's last one
+    pub search-low : SomeSheet t b → Fits b → c ≢ 0 → c ≤ 361
+    search-low s f z =
+        let n = search-node p s in
+        let same = e (n .node) (n .at) in
+        omega (arith, same, smallest-low b (faultyBy test stones (n .node)) f (λ q. z (same ∙ q)))
 
     -- it is not faulty
     pub search-again : c ≡ 0 → Searching test stones b t (i + 1) end
@@ -128,7 +139,7 @@ module _ {test : Test} {stones : ℕ → Bool} {b : Board} {t : List ℕ} {i end
           rest = n .others;
           laid = n .laid;
           to-end = n .to-end;
-          same = n .same ∙ first-passed b lineOf (faultyBy test stones) (n .node) (n .others) (its-cell (n .node) (n .at) ∙ z);
+          same = n .same ∙ first-passed b lineOf (faultyBy test stones) (n .node) (n .others) (sym (e (n .node) (n .at)) ∙ z);
         }
 
     -- it is the first that is
@@ -139,7 +150,7 @@ module _ {test : Test} {stones : ℕ → Bool} {b : Board} {t : List ℕ} {i end
           seen =
               sym
               (n .same
-              ∙ first-found b lineOf (faultyBy test stones) (n .node) (n .others) c (its-cell (n .node) (n .at)) z
+              ∙ first-found b lineOf (faultyBy test stones) (n .node) (n .others) c (sym (e (n .node) (n .at))) z
               ∙ ap (λ (l : ℕ). some (record { line = l; cell = c })) (n .line-is));
           low = low;
         }
@@ -153,14 +164,6 @@ module _ {test : Test} {stones : ℕ → Bool} {b : Board} {t : List ℕ} {i end
       go : (ns : List TreeNode) → i + length ns ≡ end → firstFault b lineOf (faultyBy test stones) ns ≡ none
       go [] e = unfold firstFault in refl
       go (n ∷ ns) e = absurd (omega arith)
-
--- a smallest cell is at most the board's last one
-pub smallest-low : (b : Board) (set : ℕ → Bool) → Fits b → smallest b set ≢ 0 → smallest b set ≤ 361
-unfolding isCell cells
-smallest-low b set f z =
-    let i = smallest-held b set z .0 in
-    let most : b .columns * b .rows ≤ 19 * 19 = mul-le-mul {n₂ = 19} {m₂ = 19} (f .few-columns) (f .few-rows) in
-    omega (arith, leb→le (smallest b set) (b .columns * b .rows) (snd (leb 1 (smallest b set)) (leb (smallest b set) (b .columns * b .rows)) i))
 
 -- the stones are those of the sheet
 pub set-up-first : (stones : ℕ → Bool) (s : Sheet) → ((x : ℕ) → stones x ≡ among (setUpCells (s .set-up)) x) → firstBy Free stones s ≡ firstOnSetUp s

@@ -10,12 +10,20 @@ use lib.ListN.{length}
 use borrow.Author.Tests.{eq-eqb, ne-eqb}
 use Rattle.rules.specs.declared.Board.{Board}
 use Rattle.rules.specs.Tree.{Moves, noMoves, move, Wait, Move}
+use Rattle.rules.specs.Board.{smallest}
+use Rattle.rules.proofs.Smallest.{smallest-zero}
+use Rattle.rules.proofs.Places.{cell-range}
 use Rattle.cells.specs.Cells.{held}
+use Rattle.cells.proofs.Smallest.{smallest-same}
 use Rattle.nodes.specs.Nodes.{aWait, aMove, nodesOfWaits, nodesOfMoves, many}
 use Rattle.nodes.specs.Table.{cellIn, underIn, RowOn, SomeNode, isMoveAt}
 use Rattle.nodes.specs.Order.{TreeNode, isMove, isWait}
-use Rattle.fair.specs.Faults.{atMoves, atWaits, faultyBy, MoveAt, WaitAt, NodeAt, moveAt, waitAt, SomeTreeNode, FoundAtMove, FoundAtWait, FoundAt}
+use Rattle.fair.specs.Faults.{atMoves, atWaits, faultyBy, MoveAt, WaitAt, NodeAt, moveAt, waitAt, SomeTreeNode, FoundAtMove, FoundAtWait, LeastAt}
 use Rattle.fair.specs.declared.Test.{Test}
+
+-- no cell is the smallest of none
+pub none-smallest : (b : Board) → smallest b (λ x. false) ≡ 0
+none-smallest b = smallest-zero b (λ x. false) (λ x i h. h)
 
 module _ {b : Board} {t : List ℕ} {i : ℕ} where
   move-is : (m : Move) → MoveAt b t i m → (1 ≤ i → 1 ≤ m .cell) → isMoveAt t i ≡ true
@@ -58,20 +66,22 @@ module _ {b : Board} {t : List ℕ} {i : ℕ} where
       go (moveAt a g) = a .here .row .room
       go (waitAt a p g) = a .here .row .room
 
-  -- by what is asked of moves alone, or of waits alone: what is found where such a node stands, and nothing where none does
-  module _ (rows : List ℕ) where
-    pub found-move : (faulty : Move → ℕ → Bool) → isMoveAt t i ≡ true → FoundAtMove faulty b t i rows → FoundAt (atMoves faulty) b t i rows
-    found-move faulty e f = of-move e (λ n. (x : ℕ) → 1 ≤ x → held b rows x ≡ atMoves faulty n x) f
+  -- by what is asked of moves alone, or of waits alone: the smallest cell found where such a node stands, and none where none does
+  module _ (rows : List ℕ) (cell : ℕ) (e : cell ≡ smallest b (held b rows)) where
+    pub least-move : (faulty : Move → ℕ → Bool) → isMoveAt t i ≡ true → FoundAtMove faulty b t i rows → LeastAt (atMoves faulty) b t i cell
+    least-move faulty k f =
+        of-move k (λ n. cell ≡ smallest b (atMoves faulty n)) (λ m a. e ∙ smallest-same b (held b rows) (faulty m) (λ x c. f m a x (cell-range b x c .0)))
 
-    pub found-wait : (faulty : Wait → ℕ → Bool) → isMoveAt t i ≡ false → FoundAtWait faulty b t i rows → FoundAt (atWaits faulty) b t i rows
-    found-wait faulty e f = of-wait e (λ n. (x : ℕ) → 1 ≤ x → held b rows x ≡ atWaits faulty n x) (λ w a g. f w a)
+    pub least-wait : (faulty : Wait → ℕ → Bool) → isMoveAt t i ≡ false → FoundAtWait faulty b t i rows → LeastAt (atWaits faulty) b t i cell
+    least-wait faulty k f =
+        of-wait k (λ n. cell ≡ smallest b (atWaits faulty n)) (λ w a g. e ∙ smallest-same b (held b rows) (faulty w) (λ x c. f w a x (cell-range b x c .0)))
 
-    pub none-wait : (faulty : Move → ℕ → Bool) → isMoveAt t i ≡ false → ((x : ℕ) → held b rows x ≡ false) → FoundAt (atMoves faulty) b t i rows
-    none-wait faulty e f = of-wait e (λ n. (x : ℕ) → 1 ≤ x → held b rows x ≡ atMoves faulty n x) (λ w a g x p. f x)
+  pub none-wait : (faulty : Move → ℕ → Bool) → isMoveAt t i ≡ false → LeastAt (atMoves faulty) b t i 0
+  none-wait faulty k = of-wait k (λ n. 0 ≡ smallest b (atMoves faulty n)) (λ w a g. sym (none-smallest b))
 
-    pub none-move : (faulty : Wait → ℕ → Bool) → isMoveAt t i ≡ true → ((x : ℕ) → held b rows x ≡ false) → FoundAt (atWaits faulty) b t i rows
-    none-move faulty e f = of-move e (λ n. (x : ℕ) → 1 ≤ x → held b rows x ≡ atWaits faulty n x) (λ m a x p. f x)
+  pub none-move : (faulty : Wait → ℕ → Bool) → isMoveAt t i ≡ true → LeastAt (atWaits faulty) b t i 0
+  none-move faulty k = of-move k (λ n. 0 ≡ smallest b (atWaits faulty n)) (λ m a. sym (none-smallest b))
 
-    -- which test it is
-    pub by-test : {test is : Test} (stones : ℕ → Bool) → test ≡ is → FoundAt (faultyBy is stones) b t i rows → FoundAt (faultyBy test stones) b t i rows
-    by-test stones q f = rw q f
+  -- which test it is
+  pub by-test : {test is : Test} (stones : ℕ → Bool) {cell : ℕ} → test ≡ is → LeastAt (faultyBy is stones) b t i cell → LeastAt (faultyBy test stones) b t i cell
+  by-test stones q f = rw q f

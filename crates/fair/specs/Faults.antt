@@ -8,6 +8,7 @@ use Prim.Native.Nat.{ℕ, _+_, _<_, _≤_}
 use lib.Dec.{eqb}
 use Rattle.rules.specs.Sizes.{mostNodes}
 use Rattle.rules.specs.declared.Board.{Board}
+use Rattle.rules.specs.Board.{smallest}
 use Rattle.rules.specs.Tree.{noMoves, Wait, Move, Sheet, everyMove}
 use Rattle.rules.specs.Fair.{Fault, notApart, notElusive, firstFault, firstNotApart, firstNotElusive}
 use Rattle.cells.specs.Cells.{held}
@@ -80,15 +81,16 @@ pub record SomeTreeNode (b : Board) (t : List ℕ) (i : ℕ) : Type 0 where
   pub node : TreeNode
   pub at : NodeAt b t i node
 
--- a set is the faulty cells of the move, the wait, the node that stands at node i, whatever it is
+-- a set is the faulty cells of the move, or of the wait, that stands at node i, whatever it is
 abbrev pub FoundAtMove : (faulty : Move → ℕ → Bool) → Board → List ℕ → ℕ → List ℕ → Type 0
 FoundAtMove faulty b t i rows = (m : Move) → MoveAt b t i m → (x : ℕ) → 1 ≤ x → held b rows x ≡ faulty m x
 
 abbrev pub FoundAtWait : (faulty : Wait → ℕ → Bool) → Board → List ℕ → ℕ → List ℕ → Type 0
 FoundAtWait faulty b t i rows = (w : Wait) → WaitAt b t i w → (x : ℕ) → 1 ≤ x → held b rows x ≡ faulty w x
 
-abbrev pub FoundAt : (faulty : TreeNode → ℕ → Bool) → Board → List ℕ → ℕ → List ℕ → Type 0
-FoundAt faulty b t i rows = (n : TreeNode) → NodeAt b t i n → (x : ℕ) → 1 ≤ x → held b rows x ≡ faulty n x
+-- the smallest faulty cell of the node that stands at node i, whatever it is
+abbrev pub LeastAt : (faulty : TreeNode → ℕ → Bool) → Board → List ℕ → (i cell : ℕ) → Type 0
+LeastAt faulty b t i cell = (n : TreeNode) → NodeAt b t i n → cell ≡ smallest b (faulty n)
 
 -- one more set in a tally of the cells found once or more, and twice or more
 pub record OneMoreSet (once twice more once′ twice′ : List ℕ) : Type 0 where

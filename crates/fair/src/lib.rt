@@ -9,7 +9,7 @@ ghost use Rattle.cells.specs.Cells.{held, Holds, Fits};
 ghost use Rattle.nodes.specs.Nodes.{aWait, aMove};
 ghost use Rattle.nodes.specs.Table.{cellIn, underIn, RowOn, SomeNode};
 ghost use Rattle.nodes.specs.Sheets.{HoldsSheet, SomeSheet};
-ghost use Rattle.fair.specs.Faults.{FaultFound, firstBy, faultyBy, SomeTreeNode, FoundAtMove, FoundAtWait, FoundAt, OneMoreSet};
+ghost use Rattle.fair.specs.Faults.{FaultFound, firstBy, faultyBy, SomeTreeNode, FoundAtMove, FoundAtWait, LeastAt, OneMoreSet};
 use cells::Cells;
 use nodes::cell_at;
 use nodes::collect_move;
@@ -108,34 +108,34 @@ fn not_elusive_at(table: &[u32], board: Board, i: usize) -> Cells
     cells
 }
 
-// The faulty cells of node i; none where it is of the kind that is not tested. No move is to stand on one of the stones.
-fn faulty_at(table: &[u32], board: Board, i: usize, test: Test, stones: Cells) -> Cells
+// The smallest faulty cell of node i; 0 where it has none or is of the kind that is not tested. No move is to stand on one of the stones.
+fn fault_at(table: &[u32], board: Board, i: usize, test: Test, stones: Cells) -> usize
     requires fits { ⌜ Fits board ⌝ }
     requires stands { ⌜ SomeTreeNode board (now table) i ⌝ }
-    ensures { λ r. ⌜ FoundAt (faultyBy test (held board (stones .rows))) board (now (table .entry)) i (r .rows) ⌝ }
+    ensures { λ r. ⌜ LeastAt (faultyBy test (held board (stones .rows))) board (now (table .entry)) i r ⌝ }
 {
     let of_move = is_move(table, i);
     match test {
         Test::Free => {
             if of_move {
                 let own = own_at(table, board, i);
-                own.meet(stones)
+                own.meet(stones).least(board)
             } else {
-                Cells::empty()
+                0
             }
         }
         Test::Apart => {
             if of_move {
-                not_apart_at(table, board, i)
+                not_apart_at(table, board, i).least(board)
             } else {
-                Cells::empty()
+                0
             }
         }
         Test::Elusive => {
             if of_move {
-                Cells::empty()
+                0
             } else {
-                not_elusive_at(table, board, i)
+                not_elusive_at(table, board, i).least(board)
             }
         }
     }
@@ -148,7 +148,7 @@ fn first_fault(table: &[u32], board: Board, test: Test, stones: Cells) -> Fault
 {
     let end = end_at(table, 0);
     for i in 0..end {
-        let cell = faulty_at(table, board, i, test, stones).least(board);
+        let cell = fault_at(table, board, i, test, stones);
         if cell != 0 {
             return Fault::At {
                 node: i,

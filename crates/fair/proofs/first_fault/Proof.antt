@@ -1,11 +1,10 @@
 -- Each node passed has no faulty cell; the first that has one is found.
-use mathlib.Core.Path.{_∙_}
 use Prim.Native.Nat.{_-_, _≤_}
 use native.Mathlib.Omega.{arith}
 use Rattle.cells.specs.Cells.{held}
 use Rattle.nodes.proofs.Table.{node-end}
 use Rattle.nodes.proofs.Sheets.{sheet-fits, sheet-stands, sheet-end}
-use Rattle.fair.proofs.Search.{Searching, search-starts, search-node, search-again, search-found, search-ends, smallest-low}
+use Rattle.fair.proofs.Search.{Searching, search-starts, search-node, search-again, search-found, search-ends, search-low}
 use Rattle.fair.proofs.first_fault.Statement.{statement}
 use Rattle.fair.proofs.first_fault.Tie as tie
 
@@ -21,25 +20,22 @@ end-at-requires c κs = sheet-stands (c .before .pre .held) .here .room
 loop-holds : tie.Need-loop-holds Inv-loop μ-loop
 loop-holds c = (omega arith, search-starts _ _ _ _ _ (c .end-at .ensures))
 
-faulty-at-requires : tie.Need-faulty-at-requires Inv-loop μ-loop
-faulty-at-requires c κs =
+fault-at-requires : tie.Need-fault-at-requires Inv-loop μ-loop
+fault-at-requires c κs =
     let s = c .before .before .before .before .pre in
     (sheet-fits (s .held), search-node (c .before .loop .inv .1) (omega arith) s)
 
-least-requires : tie.Need-least-requires Inv-loop μ-loop
-least-requires c κs = sheet-fits (c .before .before .before .before .before .pre .held)
-
-cast-t10 : tie.Need-cast-t10 Inv-loop μ-loop
-cast-t10 c =
-    let s = c .before .before .before .before .before .before .before .pre in
-    let e = c .before .least .ensures in
-    omega (arith, e, smallest-low _ _ (sheet-fits (s .held)) (λ z. c .if1 .taken (e ∙ z)))
+cast-t9 : tie.Need-cast-t9 Inv-loop μ-loop
+cast-t9 c =
+    let s = c .before .before .before .before .before .before .pre in
+    let low = search-low (c .before .before .before .loop .inv .1) (omega arith) _ (c .before .fault-at .ensures) s (sheet-fits (s .held)) (c .if1 .taken) in
+    omega (arith, low)
 
 returns : tie.Need-returns Inv-loop μ-loop
 returns c = λ s h.
-    let l = c .before .before .before .before .loop in
-    let end = c .before .before .before .before .before .end-at .ensures in
-    search-found (l .inv .1) (omega arith) _ (c .before .before .faulty-at .ensures) _ (c .before .least .ensures) (c .if1 .taken) s h
+    let l = c .before .before .before .loop in
+    let end = c .before .before .before .before .end-at .ensures in
+    search-found (l .inv .1) (omega arith) _ (c .before .fault-at .ensures) (c .if1 .taken) s h
     (omega (arith, end, sheet-end h, node-end (sheet-stands h), h .long))
 
 add-i : tie.Need-add-i Inv-loop μ-loop
@@ -50,8 +46,8 @@ loop-less c = omega arith
 
 loop-again : tie.Need-loop-again Inv-loop μ-loop
 loop-again c =
-    let l = c .before .before .before .before .loop in
-    (omega arith, search-again (l .inv .1) (omega arith) _ (c .before .before .faulty-at .ensures) _ (c .before .least .ensures) (c .if1 .left))
+    let l = c .before .before .before .loop in
+    (omega arith, search-again (l .inv .1) (omega arith) _ (c .before .fault-at .ensures) (c .if1 .left))
 
 returns-2 : tie.Need-returns-2 Inv-loop μ-loop
 returns-2 c = search-ends (c .before .loop .inv .1) (omega arith)
@@ -64,9 +60,8 @@ first-fault-spec =
     μ-loop
     end-at-requires
     loop-holds
-    faulty-at-requires
-    least-requires
-    cast-t10
+    fault-at-requires
+    cast-t9
     returns
     add-i
     loop-less
