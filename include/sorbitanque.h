@@ -19,7 +19,7 @@ enum sorbitanque_verdict {
   SORBITANQUE_LONG_TEXT = 2,
   /* 3: Line 1 is not a header; the line is 1. */
   SORBITANQUE_BAD_HEADER = 3,
-  /* 4: A node line is malformed, of the wrong kind, or without its line feed; the line tells which. */
+  /* 4: A node line or a set-up line is malformed, of the wrong kind, or without its line feed; the line tells which. */
   SORBITANQUE_BAD_LINE = 4,
   /* 5: A cell is off the board; the line tells where. */
   SORBITANQUE_OFF_BOARD = 5,
@@ -48,7 +48,11 @@ enum sorbitanque_verdict {
   /* 17: The cell of the move at the place is taken by either side. */
   SORBITANQUE_CELL_TAKEN = 17,
   /* 18: The number of the outcome is not below the count of outcomes. */
-  SORBITANQUE_NO_SUCH_OUTCOME = 18
+  SORBITANQUE_NO_SUCH_OUTCOME = 18,
+  /* 19: A set-up line names a cell that one before it named; the line is its own and the cell that cell. */
+  SORBITANQUE_SET_UP_TWICE = 19,
+  /* 20: A move is on a set-up stone; the line is the first such move's and the cell its own. */
+  SORBITANQUE_ON_SET_UP = 20
 };
 
 enum {

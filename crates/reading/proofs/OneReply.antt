@@ -15,7 +15,6 @@ use Rattle.cells.specs.declared.Cells.{Cells}
 use Rattle.nodes.specs.Sheets.{HeldStones}
 use Rattle.reading.specs.Kept.{BodyReply, BodyKept}
 use Rattle.reading.specs.declared.BodyRead.{BodyRead}
-use Rattle.reading.specs.declared.Stones.{Stones}
 use Rattle.reading.specs.declared.TreeRead.{TreeRead}
 use Rattle.reading.specs.declared.TreeRead.the-variants.{Got, Refused}
 

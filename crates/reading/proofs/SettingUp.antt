@@ -2,16 +2,16 @@
 use mathlib.Core.Path.{_≡_, refl, sym, ap, subst, subst⁻¹, _∙_}
 use Prim.Native.Nat.{ℕ, zero, suc, _+_, _≤_, _<_}
 use native.Mathlib.Omega.{arith}
-use mathlib.Core.Bool.{Bool, true, false, not, _||_, or-assoc, or-comm, or-false}
+use mathlib.Core.Bool.{Bool, true, false, not, _||_, or-comm, or-false}
 use mathlib.Core.List.{List, [], _∷_, _++_}
-use mathlib.Core.Option.{none, some}
+use mathlib.Core.Option.{some}
 use lib.Dec.{T, eqb, not-T}
 use lib.ListN.{length, drop, length-append}
 use Rattle.rules.specs.Words.{among}
 use Rattle.rules.specs.Board.{isCell, onBoard}
 use Rattle.rules.specs.Text.{Bytes}
 use Rattle.rules.specs.Lines.{Side, own, opp, isSide, Place, SetUpLine, setUpLine}
-use Rattle.rules.specs.Tree.{Stone, setUpCells, cellsOf, ownCells, oppCells}
+use Rattle.rules.specs.Tree.{Stone, setUpCells, cellsOf}
 use Rattle.rules.specs.Reading.{refused, got, within, cellOf, readSetUp}
 use Rattle.rules.specs.declared.Board.{Board}
 use Rattle.rules.specs.declared.Verdict.{Verdict}

@@ -15,7 +15,7 @@ use Rattle.rules.specs.Words.{_∈_, at-head, in-tail, among}
 use Rattle.rules.specs.Board.{isCell, smallest}
 use Rattle.rules.specs.Text.{Bytes}
 use Rattle.rules.specs.Joining.{joined}
-use Rattle.rules.specs.Tree.{Waits, noWaits, wait, Moves, noMoves, move, Wait, Move, Stone, Sheet, stone, setUpCells, ownCells, oppCells, atStart, movesOfWaits, movesOfMoves, waitsOfWaits, waitsOfMoves, everyMove, everyWait, waitCount}
+use Rattle.rules.specs.Tree.{Waits, noWaits, wait, Moves, noMoves, move, Wait, Move, Sheet, stone, setUpCells, ownCells, oppCells, atStart, movesOfWaits, movesOfMoves, waitsOfWaits, waitsOfMoves, everyMove, everyWait, waitCount}
 use Rattle.rules.specs.Reading.{got}
 use Rattle.rules.specs.Fair.{inWaits, inMoves, inMove, holding, inEvery}
 use Rattle.rules.specs.Outcomes.{outcomes, outcomesOfWaits}

@@ -13,7 +13,7 @@ use Rattle.rules.specs.Text.{Bytes}
 use Rattle.rules.specs.Lines.{Place, Side, own, opp, isSide, SetUpLine, setUpLine}
 use Rattle.rules.specs.Tree.{Stone, setUpCells, cellsOf, ownCells, oppCells}
 use Rattle.rules.specs.Written.{placeOf, writtenSetUp, writtenStones}
-use Rattle.rules.specs.Reading.{Result, refused, got, within, cellOf, unlike, setDown, readSetUp}
+use Rattle.rules.specs.Reading.{Result, refused, got, within, cellOf, setDown, readSetUp}
 use Rattle.rules.specs.Unread.{BoardSize, cellOn}
 use Rattle.rules.specs.declared.Board.{Board}
 use Rattle.rules.specs.declared.Verdict.{Verdict}
@@ -47,7 +47,7 @@ stoneOf b o p = record { side = o; cell = cellOn b p }
 -- a line's stone is set down, or refused with 5 or 19
 module _ (b : Board) (before : List ℕ) (line : ℕ) (l : SetUpLine) where
   pub down : T (onBoard b (l .place .column) (l .place .row)) → T (not (among before (cellOn b (l .place)))) → setDown b before line l ≡ got (stoneOf b (l .side) (l .place))
-  unfolding setDown unlike
+  unfolding setDown
   down on new = rw (true-of (onBoard b (l .place .column) (l .place .row)) on, false-of (among before (cellOn b (l .place))) (T-not (among before (cellOn b (l .place))) new))
 
   pub down-off : (T (onBoard b (l .place .column) (l .place .row)) → ⊥) → setDown b before line l ≡ refused (OffBoard line)
@@ -56,7 +56,7 @@ module _ (b : Board) (before : List ℕ) (line : ℕ) (l : SetUpLine) where
 
   pub down-twice : T (onBoard b (l .place .column) (l .place .row)) → T (among before (cellOn b (l .place)))
       → setDown b before line l ≡ refused (SetUpTwice line (cellOn b (l .place)))
-  unfolding setDown unlike
+  unfolding setDown
   down-twice on old = rw (true-of (onBoard b (l .place .column) (l .place .row)) on, true-of (among before (cellOn b (l .place))) old)
 
   -- one of the three

@@ -137,16 +137,13 @@ ended h cs (got x) =
       | _∷_ _ _ ↦ refused (TextAfter (x .1 .line))
     ]
 
--- 19: a set-up cell named twice, at its second line
-unfoldable pub unlike : (before : List ℕ) → (line : ℕ) → Stone → Result Stone
-unlike before line c = if among before (c .cell) then refused (SetUpTwice line (c .cell)) else got c
-
--- 5: a set-up cell off the board
+-- the stone of a set-up line, after those on the cells before. 5: its cell is off the board; then 19: its cell is named twice
 unfoldable pub setDown : Board → (before : List ℕ) → (line : ℕ) → SetUpLine → Result Stone
 setDown b before line l =
-    if onBoard b (l .place .column) (l .place .row)
-    then unlike before line (record { side = l .side; cell = cellAt b (l .place .column) (l .place .row) })
-    else refused (OffBoard line)
+    let x = cellAt b (l .place .column) (l .place .row) in
+    if not (onBoard b (l .place .column) (l .place .row))
+    then refused (OffBoard line)
+    else (if among before x then refused (SetUpTwice line x) else got (record { side = l .side; cell = x }))
 
 -- the set-up lines, as far as they go, after those of the stones before; with the text after them. (`most` is as many as there
 -- can be. A malformed set-up line is none, so that it is refused with 4 in the first node's place.)
@@ -166,6 +163,7 @@ readSetUp (suc most) b before t =
 unfoldable pub readTree : Header → List Stone → Bytes → Result Sheet
 readTree h cs t = ended h cs (readMove mostDepth (h .board) (moveLine orElse dashLine) (record { text = t; line = length cs + 2; nodes = 0 }))
 
+-- a refusal of the set-up lines, or the tree after them
 unfoldable pub planted : Header → Result (List Stone × Bytes) → Result Sheet
 planted h (refused v) = refused v
 planted h (got x) = readTree h (x .0) (x .1)
