@@ -1,5 +1,5 @@
 -- The search for the first faulty node: a loop over the node numbers finds the fault that rules finds over the moves, or over the waits.
-use mathlib.Core.Path.{_≡_, refl, sym, ap, fun-ext, _∙_}
+use mathlib.Core.Path.{_≡_, refl, sym, ap, fun-ext, subst, _∙_}
 use mathlib.Core.Logic.{_≢_}
 use mathlib.Core.Bool.{Bool}
 use mathlib.Core.Option.{Option, none, some}
@@ -23,10 +23,11 @@ use Rattle.nodes.specs.Order.{TreeNode, isMove, isWait, movesAmong, waitsAmong}
 use Rattle.nodes.specs.Sheets.{HoldsSheet, SomeSheet}
 use Rattle.nodes.proofs.Order.{waits-length, moves-of-waits, waits-of-waits}
 use Rattle.nodes.proofs.Sheets.{sheet-end}
-use Rattle.fair.specs.Faults.{notFree, firstBy, atMoves, atWaits, faultyBy, lineOf, NodeAt, SomeTreeNode, LeastAt, FaultFound}
+use Rattle.fair.specs.Faults.{notFree, firstBy, firstFree, atMoves, atWaits, faultyBy, lineOf, NodeAt, SomeTreeNode, LeastAt, FaultFound}
+use Rattle.fair.specs.declared.Fault as answered
 use Rattle.fair.specs.declared.Fault.the-variants.{At, Nothing}
 use Rattle.fair.specs.declared.Test.{Test}
-use Rattle.fair.specs.declared.Test.the-variants.{Free, Apart, Elusive}
+use Rattle.fair.specs.declared.Test.the-variants.{Apart, Elusive}
 use Rattle.fair.proofs.WhichKind.{none-smallest}
 use Rattle.fair.proofs.Laid.{Laid, laidNode, treeOf, sheet-laid}
 
@@ -64,13 +65,15 @@ tree-moves faulty s =
     ap (λ (l : List Move). firstFault (s .board) (λ (m : Move). m .line) faulty (s .root ∷ l)) (sym (moves-of-waits (s .root .waits)))
     ∙ sym (moves-first (s .board) faulty (treeOf s))
 
-tree-first : (test : Test) (stones : ℕ → Bool) (s : Sheet) → firstBy test stones s ≡ firstFault (s .board) lineOf (faultyBy test stones) (treeOf s)
+pub tree-first : (test : Test) (s : Sheet) → firstBy test s ≡ firstFault (s .board) lineOf (faultyBy test) (treeOf s)
 unfolding firstNotApart firstNotElusive everyWait waitsAmong
-tree-first Free stones s = tree-moves (notFree stones) s
-tree-first Apart stones s = tree-moves notApart s
-tree-first Elusive stones s =
+tree-first Apart s = tree-moves notApart s
+tree-first Elusive s =
     ap (λ (l : List Wait). firstFault (s .board) (λ (w : Wait). w .line) notElusive l) (sym (waits-of-waits (s .root .waits)))
     ∙ sym (waits-first (s .board) notElusive (treeOf s))
+
+pub tree-free : (stones : ℕ → Bool) (s : Sheet) → firstFree stones s ≡ firstFault (s .board) lineOf (atMoves (notFree stones)) (treeOf s)
+tree-free stones s = tree-moves (notFree stones) s
 
 -- a smallest cell is at most the board's last one
 smallest-low : (b : Board) (set : ℕ → Bool) → Fits b → smallest b set ≢ 0 → smallest b set ≤ 361
@@ -81,91 +84,94 @@ smallest-low b set f z =
     omega (arith, leb→le (smallest b set) (b .columns * b .rows) (snd (leb 1 (smallest b set)) (leb (smallest b set) (b .columns * b .rows)) i))
 
 -- of a held sheet, the nodes from i on are left, and its first fault is theirs
-pub record Left (test : Test) (stones : ℕ → Bool) (b : Board) (t : List ℕ) (i end : ℕ) (s : Sheet) : Type 0 where
+pub record Left (first : Sheet → Option Fault) (faulty : TreeNode → ℕ → Bool) (b : Board) (t : List ℕ) (i end : ℕ) (s : Sheet) : Type 0 where
   pub rest : List TreeNode
   pub laid : Laid b t (s .root .line) i rest
   pub to-end : i + length rest ≡ end
-  pub same : firstBy test stones s ≡ firstFault b lineOf (faultyBy test stones) rest
+  pub same : first s ≡ firstFault b lineOf (faulty) rest
 
 -- the loop's invariant: so it is of whatever sheet is held
-abbrev pub Searching : Test → (stones : ℕ → Bool) → Board → List ℕ → (i end : ℕ) → Type 0
-Searching test stones b t i end = (s : Sheet) → HoldsSheet t b s → Left test stones b t i end s
+abbrev pub Searching : (Sheet → Option Fault) → (TreeNode → ℕ → Bool) → Board → List ℕ → (i end : ℕ) → Type 0
+Searching first faulty b t i end = (s : Sheet) → HoldsSheet t b s → Left first faulty b t i end s
 
-pub search-starts : (test : Test) (stones : ℕ → Bool) (b : Board) (t : List ℕ) (end : ℕ) → end ≡ endIn t 0 → Searching test stones b t 0 end
-search-starts test stones b t end e s h =
+pub search-starts : (first : Sheet → Option Fault) (faulty : TreeNode → ℕ → Bool) (b : Board) (t : List ℕ) (end : ℕ) → end ≡ endIn t 0
+    → ((s : Sheet) → first s ≡ firstFault (s .board) lineOf faulty (treeOf s)) → Searching first faulty b t 0 end
+search-starts first faulty b t end e tree s h =
     record {
       rest = treeOf s;
       laid = sheet-laid s h;
       to-end = omega (arith, sheet-end h, waits-length (s .root .waits));
-      same = tree-first test stones s ∙ ap (λ (z : Board). firstFault z lineOf (faultyBy test stones) (treeOf s)) (h .on);
+      same = tree s ∙ ap (λ (z : Board). firstFault z lineOf (faulty) (treeOf s)) (h .on);
     }
 
 -- while some are left, one is at i, on its line
-record Next (test : Test) (stones : ℕ → Bool) (b : Board) (t : List ℕ) (i end : ℕ) (s : Sheet) : Type 0 where
+record Next (first : Sheet → Option Fault) (faulty : TreeNode → ℕ → Bool) (b : Board) (t : List ℕ) (i end : ℕ) (s : Sheet) : Type 0 where
   node : TreeNode
   at : NodeAt b t i node
   line-is : lineOf node ≡ i + s .root .line
   others : List TreeNode
   laid : Laid b t (s .root .line) (i + 1) others
   to-end : i + 1 + length others ≡ end
-  same : firstBy test stones s ≡ firstFault b lineOf (faultyBy test stones) (node ∷ others)
+  same : first s ≡ firstFault b lineOf (faulty) (node ∷ others)
 
-next-node : {test : Test} {stones : ℕ → Bool} {b : Board} {t : List ℕ} {i end : ℕ} {s : Sheet} → i < end → Left test stones b t i end s → Next test stones b t i end s
-next-node {test} {stones} {b} {t} {i} {end} {s} p l = go (l .rest) (l .laid) (l .to-end) (l .same)
+next-node : {first : Sheet → Option Fault} {faulty : TreeNode → ℕ → Bool} {b : Board} {t : List ℕ} {i end : ℕ} {s : Sheet} → i < end → Left first faulty b t i end s → Next first faulty b t i end s
+next-node {first} {faulty} {b} {t} {i} {end} {s} p l = go (l .rest) (l .laid) (l .to-end) (l .same)
   where
-    go : (ns : List TreeNode) → Laid b t (s .root .line) i ns → i + length ns ≡ end → firstBy test stones s ≡ firstFault b lineOf (faultyBy test stones) ns → Next test stones b t i end s
+    go : (ns : List TreeNode) → Laid b t (s .root .line) i ns → i + length ns ≡ end → first s ≡ firstFault b lineOf (faulty) ns → Next first faulty b t i end s
     go [] o e q = absurd (omega arith)
     go (n ∷ ns) (laidNode a k o) e q = record { node = n; at = a; line-is = k; others = ns; laid = o; to-end = omega arith; same = q }
 
-module _ {test : Test} {stones : ℕ → Bool} {b : Board} {t : List ℕ} {i end : ℕ} (w : Searching test stones b t i end) where
+module _ {first : Sheet → Option Fault} {faulty : TreeNode → ℕ → Bool} {b : Board} {t : List ℕ} {i end : ℕ} (w : Searching first faulty b t i end) where
   pub search-node : i < end → SomeSheet t b → SomeTreeNode b t i
   search-node p s =
       let n = next-node p (w (s .sheet) (s .held)) in
       record { node = n .node; at = n .at }
 
-  module _ (p : i < end) (c : ℕ) (e : LeastAt (faultyBy test stones) b t i c) where
+  module _ (p : i < end) (c : ℕ) (e : LeastAt (faulty) b t i c) where
     -- a cell is at most the board's last one
     pub search-low : SomeSheet t b → Fits b → c ≢ 0 → c ≤ 361
     search-low s f z =
         let n = search-node p s in
         let same = e (n .node) (n .at) in
-        omega (arith, same, smallest-low b (faultyBy test stones (n .node)) f (λ q. z (same ∙ q)))
+        omega (arith, same, smallest-low b (faulty (n .node)) f (λ q. z (same ∙ q)))
 
     -- it is not faulty
-    pub search-again : c ≡ 0 → Searching test stones b t (i + 1) end
+    pub search-again : c ≡ 0 → Searching first faulty b t (i + 1) end
     search-again z s h =
         let n = next-node p (w s h) in
         record {
           rest = n .others;
           laid = n .laid;
           to-end = n .to-end;
-          same = n .same ∙ first-passed b lineOf (faultyBy test stones) (n .node) (n .others) (sym (e (n .node) (n .at)) ∙ z);
+          same = n .same ∙ first-passed b lineOf (faulty) (n .node) (n .others) (sym (e (n .node) (n .at)) ∙ z);
         }
 
     -- it is the first that is
-    pub search-found : c ≢ 0 → (s : Sheet) → HoldsSheet t b s → i < mostNodes → FaultFound s (firstBy test stones s) (At i c)
+    pub search-found : c ≢ 0 → (s : Sheet) → HoldsSheet t b s → i < mostNodes → FaultFound s (first s) (At i c)
     search-found z s h low =
         let n = next-node p (w s h) in
         record {
           seen =
               sym
               (n .same
-              ∙ first-found b lineOf (faultyBy test stones) (n .node) (n .others) c (sym (e (n .node) (n .at))) z
+              ∙ first-found b lineOf (faulty) (n .node) (n .others) c (sym (e (n .node) (n .at))) z
               ∙ ap (λ (l : ℕ). some (record { line = l; cell = c })) (n .line-is));
           low = low;
         }
 
   -- none is
-  pub search-ends : end ≤ i → (s : Sheet) → HoldsSheet t b s → FaultFound s (firstBy test stones s) Nothing
+  pub search-ends : end ≤ i → (s : Sheet) → HoldsSheet t b s → FaultFound s (first s) Nothing
   search-ends p s h =
       let l = w s h in
       record { seen = sym (l .same ∙ go (l .rest) (l .to-end)); low = tt }
     where
-      go : (ns : List TreeNode) → i + length ns ≡ end → firstFault b lineOf (faultyBy test stones) ns ≡ none
+      go : (ns : List TreeNode) → i + length ns ≡ end → firstFault b lineOf (faulty) ns ≡ none
       go [] e = unfold firstFault in refl
       go (n ∷ ns) e = absurd (omega arith)
 
 -- the stones are those of the sheet
-pub set-up-first : (stones : ℕ → Bool) (s : Sheet) → ((x : ℕ) → stones x ≡ among (setUpCells (s .set-up)) x) → firstBy Free stones s ≡ firstOnSetUp s
+pub set-up-found : {s : Sheet} {r : answered.Fault} (stones : ℕ → Bool) → ((x : ℕ) → stones x ≡ among (setUpCells (s .set-up)) x)
+    → FaultFound s (firstFree stones s) r → FaultFound s (firstOnSetUp s) r
 unfolding firstOnSetUp onSetUp
-set-up-first stones s e = ap (λ (f : ℕ → Bool). firstFault (s .board) (λ (m : Move). m .line) (notFree f) (everyMove s)) (fun-ext e)
+set-up-found {s} {r} stones e f =
+    subst (λ (o : Option Fault). FaultFound s o r) (ap (λ (g : ℕ → Bool). firstFault (s .board) (λ (m : Move). m .line) (notFree g) (everyMove s)) (fun-ext e)) f

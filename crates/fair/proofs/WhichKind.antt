@@ -1,25 +1,32 @@
 -- Which kind of node stands at a node number: the first node is a move, and any other that has a cell.
-use mathlib.Core.Path.{_≡_, refl, sym, _∙_}
+use mathlib.Core.Path.{_≡_, refl, sym, subst, _∙_}
 use mathlib.Core.Logic.{_≢_, ⊎-elim}
 use mathlib.Core.Bool.{Bool, true, false, true≢false, false≢true}
 use Prim.Native.Nat.{ℕ, _+_, _*_, _<_, _≤_}
 use native.Mathlib.Nat.{eq-zero-or-pos}
 use native.Mathlib.Omega.{arith}
 use mathlib.Core.List.{List}
+use lib.Dec.{T, eqb, eqb→eq}
 use lib.ListN.{length}
 use borrow.Author.Tests.{eq-eqb, ne-eqb}
 use Rattle.rules.specs.declared.Board.{Board}
 use Rattle.rules.specs.Tree.{Moves, noMoves, move, Wait, Move}
-use Rattle.rules.specs.Board.{smallest}
-use Rattle.rules.proofs.Smallest.{smallest-zero}
+use Rattle.rules.specs.Board.{isCell, smallest}
+use Rattle.rules.proofs.Tests.{holds-of, both, fst, snd}
+use Rattle.rules.proofs.Smallest.{smallest-is, smallest-zero}
 use Rattle.rules.proofs.Places.{cell-range}
 use Rattle.cells.specs.Cells.{held}
 use Rattle.cells.proofs.Smallest.{smallest-same}
 use Rattle.nodes.specs.Nodes.{aWait, aMove, nodesOfWaits, nodesOfMoves, many}
 use Rattle.nodes.specs.Table.{cellIn, underIn, RowOn, SomeNode, isMoveAt}
 use Rattle.nodes.specs.Order.{TreeNode, isMove, isWait}
-use Rattle.fair.specs.Faults.{atMoves, atWaits, faultyBy, MoveAt, WaitAt, NodeAt, moveAt, waitAt, SomeTreeNode, FoundAtMove, FoundAtWait, LeastAt}
+use Rattle.fair.specs.Faults.{notFree, atMoves, atWaits, faultyBy, MoveAt, WaitAt, NodeAt, moveAt, waitAt, SomeTreeNode, FoundAtMove, FoundAtWait, LeastAt}
 use Rattle.fair.specs.declared.Test.{Test}
+
+-- what a set holds is a cell
+pub held-cell : (b : Board) (rows : List ℕ) (x : ℕ) → held b rows x ≡ true → T (isCell b x)
+unfolding held
+held-cell b rows x e = fst (isCell b x) _ (holds-of e)
 
 -- no cell is the smallest of none
 pub none-smallest : (b : Board) → smallest b (λ x. false) ≡ 0
@@ -82,6 +89,29 @@ module _ {b : Board} {t : List ℕ} {i : ℕ} where
   pub none-move : (faulty : Wait → ℕ → Bool) → isMoveAt t i ≡ true → LeastAt (atWaits faulty) b t i 0
   none-move faulty k = of-move k (λ n. 0 ≡ smallest b (atWaits faulty n)) (λ m a. sym (none-smallest b))
 
+  -- a move's own cell with a stone on it, and one without; a wait has no cell
+  module _ (rows : List ℕ) (cell : ℕ) (is : cell ≡ cellIn t i) where
+    pub stone-there : held b rows cell ≡ true → LeastAt (atMoves (notFree (held b rows))) b t i cell
+    stone-there e _ (moveAt {m} a g) =
+        let own : cell ≡ m .cell = is ∙ a .here .row .cell in
+        sym
+        (smallest-is b (notFree (held b rows) m) cell
+        (record {
+          is-cell = held-cell b rows cell e;
+          in-set = both (eqb cell (m .cell)) (held b rows cell) (holds-of (eq-eqb cell (m .cell) own)) (holds-of e);
+          least = λ x k h. omega (arith, own, eqb→eq x (m .cell) (fst (eqb x (m .cell)) (held b rows x) h));
+        }))
+    stone-there e _ (waitAt {w} a p g) = absurd (omega (arith, is, a .here .row .cell, cell-range b cell (held-cell b rows cell e) .0))
+
+    pub stone-gone : held b rows cell ≡ false → LeastAt (atMoves (notFree (held b rows))) b t i 0
+    stone-gone e _ (moveAt {m} a g) =
+        sym
+        (smallest-zero b (notFree (held b rows) m)
+        (λ x k h.
+        let same : x ≡ cell = eqb→eq x (m .cell) (fst (eqb x (m .cell)) (held b rows x) h) ∙ sym (is ∙ a .here .row .cell) in
+        subst T e (subst (λ (y : ℕ). T (held b rows y)) same (snd (eqb x (m .cell)) (held b rows x) h))))
+    stone-gone e _ (waitAt {w} a p g) = sym (none-smallest b)
+
   -- which test it is
-  pub by-test : {test is : Test} (stones : ℕ → Bool) {cell : ℕ} → test ≡ is → LeastAt (faultyBy is stones) b t i cell → LeastAt (faultyBy test stones) b t i cell
-  by-test stones q f = rw q f
+  pub by-test : {test is : Test} {cell : ℕ} → test ≡ is → LeastAt (faultyBy is) b t i cell → LeastAt (faultyBy test) b t i cell
+  by-test q f = rw q f

@@ -17,7 +17,7 @@ use Rattle.nodes.specs.Table.{RowOn, At}
 use Rattle.nodes.specs.Order.{TreeNode, isMove, isWait}
 use Rattle.fair.specs.declared.Fault as answered
 use Rattle.fair.specs.declared.Test.{Test}
-use Rattle.fair.specs.declared.Test.the-variants.{Free, Apart, Elusive}
+use Rattle.fair.specs.declared.Test.the-variants.{Apart, Elusive}
 
 -- the fault that an answer tells, where the first node's line is `first`
 abbrev pub faultSeen : (first : ℕ) → answered.Fault → Option Fault
@@ -38,11 +38,13 @@ pub record FaultFound (s : Sheet) (fault : Option Fault) (r : answered.Fault) : 
 abbrev pub notFree : (stones : ℕ → Bool) → Move → ℕ → Bool
 notFree stones m x = eqb x (m .cell) && stones x
 
--- the first fault of a sheet by a test
-abbrev pub firstBy : Test → (stones : ℕ → Bool) → Sheet → Option Fault
-firstBy Free stones s = firstFault (s .board) (λ (m : Move). m .line) (notFree stones) (everyMove s)
-firstBy Apart stones s = firstNotApart s
-firstBy Elusive stones s = firstNotElusive s
+-- the first fault of a sheet by a test, and by a set of stones
+abbrev pub firstBy : Test → Sheet → Option Fault
+firstBy Apart s = firstNotApart s
+firstBy Elusive s = firstNotElusive s
+
+abbrev pub firstFree : (stones : ℕ → Bool) → Sheet → Option Fault
+firstFree stones s = firstFault (s .board) (λ (m : Move). m .line) (notFree stones) (everyMove s)
 
 -- x is faulty at a node by what is asked of moves alone, or of waits alone
 abbrev pub atMoves : (Move → ℕ → Bool) → TreeNode → ℕ → Bool
@@ -54,10 +56,9 @@ atWaits faulty (isMove m) x = false
 atWaits faulty (isWait w) x = faulty w x
 
 -- x is faulty at a node by a test
-abbrev pub faultyBy : Test → (stones : ℕ → Bool) → TreeNode → ℕ → Bool
-faultyBy Free stones = atMoves (notFree stones)
-faultyBy Apart stones = atMoves notApart
-faultyBy Elusive stones = atWaits notElusive
+abbrev pub faultyBy : Test → TreeNode → ℕ → Bool
+faultyBy Apart = atMoves notApart
+faultyBy Elusive = atWaits notElusive
 
 -- the line of a node of the tree
 abbrev pub lineOf : TreeNode → ℕ

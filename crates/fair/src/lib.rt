@@ -1,13 +1,11 @@
 // fair: free, apart and elusive, decided over the node table. It holds the three searches for the first faulty node, each with
 // that node's smallest faulty cell. It sees rules, cells and nodes.
-ghost use mathlib.Core.Path.{_≡_};
-ghost use Prim.Native.Nat.{ℕ, _+_, _<_, _≤_};
-ghost use lib.Dec.{eqb};
+ghost use Prim.Native.Nat.{_≤_};
 ghost use Rattle.rules.specs.Fair.{notApart, notElusive, firstOnSetUp, firstNotApart, firstNotElusive};
 ghost use Rattle.rules.specs.Tree.{Sheet, setUpCells};
-ghost use Rattle.cells.specs.Cells.{held, Holds, Fits};
+ghost use Rattle.cells.specs.Cells.{Holds, Fits};
 ghost use Rattle.nodes.specs.Nodes.{aWait, aMove};
-ghost use Rattle.nodes.specs.Table.{cellIn, underIn, RowOn, SomeNode};
+ghost use Rattle.nodes.specs.Table.{underIn, RowOn, SomeNode};
 ghost use Rattle.nodes.specs.Sheets.{HoldsSheet, SomeSheet};
 ghost use Rattle.fair.specs.Faults.{FaultFound, firstBy, faultyBy, SomeTreeNode, FoundAtMove, FoundAtWait, LeastAt, OneMoreSet};
 use cells::Cells;
@@ -26,9 +24,8 @@ pub enum Fault {
     Nothing,
 }
 
-// Which nodes are tested, and how: free and apart are asked of moves, elusive of waits.
+// Which nodes are tested, and how: apart is asked of moves, elusive of waits.
 enum Test {
-    Free,
     Apart,
     Elusive,
 }
@@ -54,16 +51,6 @@ impl Seen {
     }
 }
 
-// The own cell of the move at node i; none where it has none.
-fn own_at(table: &[u32], board: Board, i: usize) -> Cells
-    requires fits { ⌜ Fits board ⌝ }
-    requires stands { ⌜ SomeNode (RowOn board (now table)) aMove i ⌝ }
-    ensures { λ r. ⌜ ((x : ℕ) → 1 ≤ x → held board (r .rows) x ≡ eqb x (cellIn (now (table .entry)) i)) ⌝ }
-{
-    let cell = cell_at(table, i);
-    with_stone(Cells::empty(), board, cell)
-}
-
 // The faulty cells of the move at node i: its own where it is found under it, and those found in two or more of its waits.
 fn not_apart_at(table: &[u32], board: Board, i: usize) -> Cells
     requires fits { ⌜ Fits board ⌝ }
@@ -71,7 +58,8 @@ fn not_apart_at(table: &[u32], board: Board, i: usize) -> Cells
     ensures { λ r. ⌜ FoundAtMove notApart board (now (table .entry)) i (r .rows) ⌝ }
 {
     let under = under_at(table, i);
-    let own = own_at(table, board, i);
+    let cell = cell_at(table, i);
+    let own = with_stone(Cells::empty(), board, cell);
     let mut seen = Seen {
         once: own,
         twice: Cells::empty(),
@@ -108,47 +96,38 @@ fn not_elusive_at(table: &[u32], board: Board, i: usize) -> Cells
     cells
 }
 
-// The smallest faulty cell of node i; 0 where it has none or is of the kind that is not tested. No move is to stand on one of the stones.
-fn fault_at(table: &[u32], board: Board, i: usize, test: Test, stones: Cells) -> usize
+// The smallest faulty cell of node i; 0 where it has none or is of the kind that is not tested.
+fn fault_at(table: &[u32], board: Board, i: usize, test: Test) -> usize
     requires fits { ⌜ Fits board ⌝ }
     requires stands { ⌜ SomeTreeNode board (now table) i ⌝ }
-    ensures { λ r. ⌜ LeastAt (faultyBy test (held board (stones .rows))) board (now (table .entry)) i r ⌝ }
+    ensures { λ r. ⌜ LeastAt (faultyBy test) board (now (table .entry)) i r ⌝ }
 {
     let of_move = is_move(table, i);
-    match test {
-        Test::Free => {
-            if of_move {
-                let own = own_at(table, board, i);
-                own.meet(stones).least(board)
-            } else {
-                0
-            }
-        }
+    let found = match test {
         Test::Apart => {
-            if of_move {
-                not_apart_at(table, board, i).least(board)
-            } else {
-                0
+            if !of_move {
+                return 0;
             }
+            not_apart_at(table, board, i)
         }
         Test::Elusive => {
             if of_move {
-                0
-            } else {
-                not_elusive_at(table, board, i).least(board)
+                return 0;
             }
+            not_elusive_at(table, board, i)
         }
-    }
+    };
+    found.least(board)
 }
 
 // The first faulty node by the test.
-fn first_fault(table: &[u32], board: Board, test: Test, stones: Cells) -> Fault
+fn first_fault(table: &[u32], board: Board, test: Test) -> Fault
     requires { ⌜ SomeSheet (now table) board ⌝ }
-    ensures { λ r. ⌜ ((s : Sheet) → HoldsSheet (now (table .entry)) board s → FaultFound s (firstBy test (held board (stones .rows)) s) r) ⌝ }
+    ensures { λ r. ⌜ ((s : Sheet) → HoldsSheet (now (table .entry)) board s → FaultFound s (firstBy test s) r) ⌝ }
 {
     let end = end_at(table, 0);
     for i in 0..end {
-        let cell = fault_at(table, board, i, test, stones);
+        let cell = fault_at(table, board, i, test);
         if cell != 0 {
             return Fault::At {
                 node: i,
@@ -159,12 +138,22 @@ fn first_fault(table: &[u32], board: Board, test: Test, stones: Cells) -> Fault
     Fault::Nothing
 }
 
-// 20: the first move on a set-up stone, given the cells of the stones.
+// 20: the first move on a set-up stone, given the cells of the stones. (A wait has no cell.)
 pub fn on_set_up(table: &[u32], board: Board, stones: Cells) -> Fault
     requires { ⌜ SomeSheet (now table) board ⌝ }
     ensures { λ r. ⌜ ((s : Sheet) → HoldsSheet (now (table .entry)) board s → Holds board (stones .rows) (setUpCells (s .set-up)) → FaultFound s (firstOnSetUp s) r) ⌝ }
 {
-    first_fault(table, board, Test::Free, stones)
+    let end = end_at(table, 0);
+    for i in 0..end {
+        let cell = cell_at(table, i);
+        if stones.has(board, cell) {
+            return Fault::At {
+                node: i,
+                cell: cell as u32,
+            };
+        }
+    }
+    Fault::Nothing
 }
 
 // 10: the first move that is not apart.
@@ -172,7 +161,7 @@ pub fn not_apart(table: &[u32], board: Board) -> Fault
     requires { ⌜ SomeSheet (now table) board ⌝ }
     ensures { λ r. ⌜ ((s : Sheet) → HoldsSheet (now (table .entry)) board s → FaultFound s (firstNotApart s) r) ⌝ }
 {
-    first_fault(table, board, Test::Apart, Cells::empty())
+    first_fault(table, board, Test::Apart)
 }
 
 // 11: the first wait that is not elusive.
@@ -180,5 +169,5 @@ pub fn not_elusive(table: &[u32], board: Board) -> Fault
     requires { ⌜ SomeSheet (now table) board ⌝ }
     ensures { λ r. ⌜ ((s : Sheet) → HoldsSheet (now (table .entry)) board s → FaultFound s (firstNotElusive s) r) ⌝ }
 {
-    first_fault(table, board, Test::Elusive, Cells::empty())
+    first_fault(table, board, Test::Elusive)
 }

@@ -1,32 +1,32 @@
 -- Each node passed has no faulty cell; the first that has one is found.
 use Prim.Native.Nat.{_-_, _≤_}
 use native.Mathlib.Omega.{arith}
-use Rattle.cells.specs.Cells.{held}
 use Rattle.nodes.proofs.Table.{node-end}
 use Rattle.nodes.proofs.Sheets.{sheet-fits, sheet-stands, sheet-end}
-use Rattle.fair.proofs.Search.{Searching, search-starts, search-node, search-again, search-found, search-ends, search-low}
+use Rattle.fair.specs.Faults.{firstBy, faultyBy}
+use Rattle.fair.proofs.Search.{Searching, tree-first, search-starts, search-node, search-again, search-found, search-ends, search-low}
 use Rattle.fair.proofs.first_fault.Statement.{statement}
 use Rattle.fair.proofs.first_fault.Tie as tie
 
 abbrev Inv-loop : tie.InvT-loop
-Inv-loop table board test stones end i₀ i = (i ≤ end) × Searching test (held board (stones .rows)) board table i end
+Inv-loop table board test end i₀ i = (i ≤ end) × Searching (firstBy test) (faultyBy test) board table i end
 
 abbrev μ-loop : tie.MeasureT-loop
-μ-loop table board test stones end i₀ i = end - i
+μ-loop table board test end i₀ i = end - i
 
 end-at-requires : tie.Need-end-at-requires Inv-loop μ-loop
 end-at-requires c κs = sheet-stands (c .before .pre .held) .here .room
 
 loop-holds : tie.Need-loop-holds Inv-loop μ-loop
-loop-holds c = (omega arith, search-starts _ _ _ _ _ (c .end-at .ensures))
+loop-holds c = (omega arith, search-starts _ _ _ _ _ (c .end-at .ensures) (tree-first (c .before .before .args .test)))
 
 fault-at-requires : tie.Need-fault-at-requires Inv-loop μ-loop
 fault-at-requires c κs =
     let s = c .before .before .before .before .pre in
     (sheet-fits (s .held), search-node (c .before .loop .inv .1) (omega arith) s)
 
-cast-t9 : tie.Need-cast-t9 Inv-loop μ-loop
-cast-t9 c =
+cast-t8 : tie.Need-cast-t8 Inv-loop μ-loop
+cast-t8 c =
     let s = c .before .before .before .before .before .before .pre in
     let low = search-low (c .before .before .before .loop .inv .1) (omega arith) _ (c .before .fault-at .ensures) s (sheet-fits (s .held)) (c .if1 .taken) in
     omega (arith, low)
@@ -61,7 +61,7 @@ first-fault-spec =
     end-at-requires
     loop-holds
     fault-at-requires
-    cast-t9
+    cast-t8
     returns
     add-i
     loop-less

@@ -4,4 +4,4 @@ use Rattle.fair.proofs.not_elusive.Statement.{statement}
 use Rattle.fair.proofs.not_elusive.Tie as tie
 
 pub not-elusive-spec : {M : Type 1} → statement M
-not-elusive-spec = tie.close (tie.spec (λ c κs. search needs) (λ c κs. search needs) (λ c. c .first-fault .ensures))
+not-elusive-spec = tie.close (tie.spec (λ c κs. search needs) (λ c. c .first-fault .ensures))
