@@ -143,8 +143,8 @@ pub fn on_set_up(table: &[u32], board: Board, stones: Cells) -> Fault
     requires { ⌜ SomeSheet (now table) board ⌝ }
     ensures { λ r. ⌜ ((s : Sheet) → HoldsSheet (now (table .entry)) board s → Holds board (stones .rows) (setUpCells (s .set-up)) → FaultFound s (firstOnSetUp s) r) ⌝ }
 {
-    let end = end_at(table, 0);
-    for i in 0..end {
+    let nodes = end_at(table, 0);
+    for i in 0..nodes {
         let cell = cell_at(table, i);
         if stones.has(board, cell) {
             return Fault::At {

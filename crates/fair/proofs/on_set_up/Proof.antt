@@ -15,10 +15,10 @@ use Rattle.fair.proofs.on_set_up.Statement.{statement}
 use Rattle.fair.proofs.on_set_up.Tie as tie
 
 abbrev Inv-loop : tie.InvT-loop
-Inv-loop table board stones end i₀ i = (i ≤ end) × Searching (firstFree (held board (stones .rows))) (atMoves (notFree (held board (stones .rows)))) board table i end
+Inv-loop table board stones nodes i₀ i = (i ≤ nodes) × Searching (firstFree (held board (stones .rows))) (atMoves (notFree (held board (stones .rows)))) board table i nodes
 
 abbrev μ-loop : tie.MeasureT-loop
-μ-loop table board stones end i₀ i = end - i
+μ-loop table board stones nodes i₀ i = nodes - i
 
 end-at-requires : tie.Need-end-at-requires Inv-loop μ-loop
 end-at-requires c κs = sheet-stands (c .before .pre .held) .here .room
