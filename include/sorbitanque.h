@@ -87,7 +87,8 @@ enum {
    - What a function may write (room, workspace, details) overlaps nothing else that it is given. Sheet and moves are only read, and may overlap.
    - No function keeps anything between calls or has memory of its own but the stack: calls may run side by side, in threads or in a signal handler, as
      long as each has a room, a workspace and details of its own.
-   - Of the seven sheets measured (docs/FIGURES.md), depth 127 among them, none took a call more than 40 KB of stack; no bound is proved. Give it 64 KB.
+   - Of the nine sheets measured (docs/FIGURES.md), one of depth 127 and one with 141 choices in an outcome among them, none took a call more than 68 KB of
+     stack; no bound is proved. Give it 128 KB.
    - All seven details are written by every call; line, cell and index are 0 where the verdict's sentence does not name them.
    - The first 8,192 numbers of the workspace are 0 after every call and the rest as it was; after verdict 1 all of it is as it was.
    - The room changes on verdict 0 alone, and only in as many first places as there are answers or cells. */
@@ -105,7 +106,7 @@ void sorbitanque_play(const uint8_t *sheet, size_t sheet_length,
                       uint32_t *workspace, size_t workspace_length,
                       uint32_t details[SORBITANQUE_DETAILS]);
 
-/* Writes the cells of the outcome with a number, counted from 0, into the room in ascending order; the details are verdict, line,
+/* Writes the cells of the outcome with a number, counted from 0, and the own set-up stones into the room in ascending order; the details are verdict, line,
    cell, index, the number of cells (0 on a refusal), 0 and 0. */
 void sorbitanque_outcome(const uint8_t *sheet, size_t sheet_length,
                          uint32_t number,
