@@ -16,21 +16,22 @@ use Rattle.rules.specs.Text.{Bytes}
 use Rattle.rules.specs.Joining.{Joins, joined}
 use Rattle.rules.specs.Tree.{Wait, Move, Stone, Sheet, setUpCells, everyMove, everyWait}
 use Rattle.rules.specs.Reading.{Result, refused, got, readSheet}
-use Rattle.rules.specs.Fair.{Fault, inWaits, holding, onSetUp, notApart, notElusive, firstOnSetUp, firstNotApart, firstNotElusive}
+use Rattle.rules.specs.Fair.{Fault, inWaits, holding, onSetUp, notApart, notElusive, firstOnSetUp, firstNotApart, firstTwice, firstNotElusive}
 use Rattle.rules.specs.Outcomes.{outcomes, outcomeCount}
 use Rattle.rules.specs.Entries.{_>>=_, refuseIf, refuseFault, refuseUnjoined, readTextUpTo, readUpTo, read, fair, satisfying, accepted, judged, judge}
-use Rattle.rules.specs.Plain.{IsFree, IsApart, IsElusive, AllFree, AllApart, AllElusive, AllJoin, WithinSizes, IsRead, IsFair, IsSheet, Given, as-accepted, as-small, as-long, as-unread, as-on-set-up, as-not-apart, as-not-elusive, as-too-many, as-not-joined}
+use Rattle.rules.specs.Plain.{IsFree, IsApart, IsElusive, AllFree, AllApart, NoneTwice, AllElusive, AllJoin, WithinSizes, IsRead, IsFair, IsSheet, Given, as-accepted, as-small, as-long, as-unread, as-on-set-up, as-not-apart, as-twice, as-not-elusive, as-too-many, as-not-joined}
 use Rattle.rules.specs.declared.Board.{Board}
 use Rattle.rules.specs.declared.Player.{Player}
 use Rattle.rules.specs.Verdict.{told}
 use Rattle.rules.specs.declared.Told.{Told}
 use Rattle.rules.specs.declared.Verdict.{Verdict}
-use Rattle.rules.specs.declared.Verdict.the-variants.{SmallWorkspace, LongText, OnSetUp, NotApart, NotElusive, TooManyOutcomes, NotJoined}
+use Rattle.rules.specs.declared.Verdict.the-variants.{SmallWorkspace, LongText, OnSetUp, NotApart, NotElusive, TooManyOutcomes, NotJoined, SameBranch}
 use Rattle.rules.proofs.Tests.{true-of, false-of, both, fst, snd, left, right, cases}
 use Rattle.rules.proofs.Lists.{all-cons, nothing-in}
 use Rattle.rules.proofs.Joining.{joined→joins, joins→joined}
 use Rattle.rules.proofs.Outcomes.{count-is-length}
 use Rattle.rules.proofs.Smallest.{none-clean, clean-none, first-is, is-first}
+use Rattle.rules.proofs.Twice.{twice-none, none-twice, twice-first, is-first-twice}
 use Rattle.rules.proofs.Written.{reads-exactly}
 use Rattle.rules.proofs.Unread.{refused-exactly}
 use Rattle.rules.proofs.Steps.{not-refused, got-inj, then-got, refuseIf-got, refuseFault-got}
@@ -187,7 +188,7 @@ module _ (w : ℕ) (t : Bytes) where
   unfolding judge _>>=_
   reply-got s r = rw (accepted-read (r .sizes), reads-exactly t s .1 (r .spells))
 
--- a sheet that was read: 20, 10, 11 and 12
+-- a sheet that was read: 20, 10, 24, 11 and 12
 module _ (s : Sheet) where
   pub fair-on : (f : Fault) → firstOnSetUp s ≡ some f → fair s ≡ refused (OnSetUp (f .line) (f .cell))
   unfolding fair refuseFault _>>=_
@@ -197,17 +198,24 @@ module _ (s : Sheet) where
   unfolding fair refuseFault _>>=_
   fair-apart f o e = rw (o, e)
 
-  pub fair-elusive : (f : Fault) → firstOnSetUp s ≡ none → firstNotApart s ≡ none → firstNotElusive s ≡ some f → fair s ≡ refused (NotElusive (f .line) (f .cell))
+  pub fair-twice : (f : Fault) → firstOnSetUp s ≡ none → firstNotApart s ≡ none → firstTwice s ≡ some f → fair s ≡ refused (SameBranch (f .line))
   unfolding fair refuseFault _>>=_
-  fair-elusive f o a e = rw (o, a, e)
+  fair-twice f o a e = rw (o, a, e)
 
-  pub fair-many : firstOnSetUp s ≡ none → firstNotApart s ≡ none → firstNotElusive s ≡ none → mostOutcomes < outcomeCount s → fair s ≡ refused TooManyOutcomes
-  unfolding fair refuseFault refuseIf _>>=_
-  fair-many o a e m = rw (o, a, e, lt-ltb mostOutcomes (outcomeCount s) m)
+  pub fair-elusive : (f : Fault) → firstOnSetUp s ≡ none → firstNotApart s ≡ none → firstTwice s ≡ none → firstNotElusive s ≡ some f
+      → fair s ≡ refused (NotElusive (f .line) (f .cell))
+  unfolding fair refuseFault _>>=_
+  fair-elusive f o a d e = rw (o, a, d, e)
 
-  pub fair-passed : firstOnSetUp s ≡ none → firstNotApart s ≡ none → firstNotElusive s ≡ none → outcomeCount s ≤ mostOutcomes → fair s ≡ got s
+  pub fair-many : firstOnSetUp s ≡ none → firstNotApart s ≡ none → firstTwice s ≡ none → firstNotElusive s ≡ none → mostOutcomes < outcomeCount s
+      → fair s ≡ refused TooManyOutcomes
   unfolding fair refuseFault refuseIf _>>=_
-  fair-passed o a e m = rw (o, a, e, le-ltb mostOutcomes (outcomeCount s) m)
+  fair-many o a d e m = rw (o, a, d, e, lt-ltb mostOutcomes (outcomeCount s) m)
+
+  pub fair-passed : firstOnSetUp s ≡ none → firstNotApart s ≡ none → firstTwice s ≡ none → firstNotElusive s ≡ none → outcomeCount s ≤ mostOutcomes
+      → fair s ≡ got s
+  unfolding fair refuseFault refuseIf _>>=_
+  fair-passed o a d e m = rw (o, a, d, e, le-ltb mostOutcomes (outcomeCount s) m)
 
   fair-refused : (v : Verdict) → fair s ≡ refused v → judged (fair s >>= satisfying) ≡ v
   unfolding judged _>>=_
@@ -221,7 +229,7 @@ module _ (s : Sheet) where
   unfolding _>>=_
   fair-satisfying w t f =
       reply-got w t s (f .read)
-      ∙ ap (λ (r : Result Sheet). judged (r >>= satisfying)) (fair-passed (free-none s (f .free)) (apart-none s (f .apart)) (elusive-none s (f .elusive)) (f .few))
+      ∙ ap (λ (r : Result Sheet). judged (r >>= satisfying)) (fair-passed (free-none s (f .free)) (apart-none s (f .apart)) (none-twice s (f .none-twice)) (elusive-none s (f .elusive)) (f .few))
 
 -- every case of the table is what judge's reply tells
 pub given-judge : (w : ℕ) (t : Bytes) (n : Told) → Given w t n → told (judge w t) ≡ n
@@ -238,10 +246,13 @@ given-judge w t _ (as-on-set-up s f r h) =
     ap told (reply-got w t s r ∙ fair-refused s _ (fair-on s f (is-first (s .board) (λ (m : Move). m .line) (onSetUp (s .set-up)) (everyMove s) f h)))
 given-judge w t _ (as-not-apart s f r o h) =
     ap told (reply-got w t s r ∙ fair-refused s _ (fair-apart s f (free-none s o) (is-first (s .board) (λ (m : Move). m .line) notApart (everyMove s) f h)))
-given-judge w t _ (as-not-elusive s f r o a h) =
+given-judge w t _ (as-twice s l r o a h) = ap told (reply-got w t s r ∙ fair-refused s _ (fair-twice s _ (free-none s o) (apart-none s a) (is-first-twice s l h)))
+given-judge w t _ (as-not-elusive s f r o a d h) =
     ap told
-    (reply-got w t s r ∙ fair-refused s _ (fair-elusive s f (free-none s o) (apart-none s a) (is-first (s .board) (λ (v : Wait). v .line) notElusive (everyWait s) f h)))
-given-judge w t _ (as-too-many s r o a l m) = ap told (reply-got w t s r ∙ fair-refused s _ (fair-many s (free-none s o) (apart-none s a) (elusive-none s l) m))
+    (reply-got w t s r
+    ∙ fair-refused s _ (fair-elusive s f (free-none s o) (apart-none s a) (none-twice s d) (is-first (s .board) (λ (v : Wait). v .line) notElusive (everyWait s) f h)))
+given-judge w t _ (as-too-many s r o a d l m) =
+    ap told (reply-got w t s r ∙ fair-refused s _ (fair-many s (free-none s o) (apart-none s a) (none-twice s d) (elusive-none s l) m))
 given-judge w t _ (as-not-joined s i f h) =
     ap told (
     fair-satisfying s w t f
@@ -266,27 +277,32 @@ module _ (w : ℕ) (t : Bytes) (s : Sheet) (r : IsRead w t s) where
       let n : 0 + i ≡ i = omega arith in
       rw n (as-not-joined s i f (record { is-number = omega (arith, count-is-length s); not-joined = not-so; joined-before = so }))
 
-  count-given : AllFree s → AllApart s → AllElusive s → (b : Bool) → ltb mostOutcomes (outcomeCount s) ≡ b → GivenAs w t (judged (fair s >>= satisfying))
+  count-given : AllFree s → AllApart s → NoneTwice s → AllElusive s → (b : Bool) → ltb mostOutcomes (outcomeCount s) ≡ b → GivenAs w t (judged (fair s >>= satisfying))
   unfolding _>>=_
-  count-given o a l true q =
-      subst⁻¹ (GivenAs w t) (fair-refused s _ (fair-many s (free-none s o) (apart-none s a) (elusive-none s l) (ltb-true mostOutcomes (outcomeCount s) q)))
-      (as-too-many s r o a l (ltb-true mostOutcomes (outcomeCount s) q))
-  count-given o a l false q =
+  count-given o a d l true q =
+      subst⁻¹ (GivenAs w t) (fair-refused s _ (fair-many s (free-none s o) (apart-none s a) (none-twice s d) (elusive-none s l) (ltb-true mostOutcomes (outcomeCount s) q)))
+      (as-too-many s r o a d l (ltb-true mostOutcomes (outcomeCount s) q))
+  count-given o a d l false q =
       let m = ltb-false mostOutcomes (outcomeCount s) q in
-      subst⁻¹ (λ (u : Result Sheet). GivenAs w t (judged (u >>= satisfying))) (fair-passed s (free-none s o) (apart-none s a) (elusive-none s l) m)
+      subst⁻¹ (λ (u : Result Sheet). GivenAs w t (judged (u >>= satisfying))) (fair-passed s (free-none s o) (apart-none s a) (none-twice s d) (elusive-none s l) m)
       (subst⁻¹ (λ (u : Result Sheet). GivenAs w t (judged u)) (fault-joined s (refuseUnjoined (s .board) (s .player) 0 (outcomes s)) refl)
-      (joined-given (record { read = r; free = o; apart = a; elusive = l; few = m }) (refuseUnjoined (s .board) (s .player) 0 (outcomes s)) (walked (s .board) (s .player) 0 (outcomes s))))
+      (joined-given (record { read = r; free = o; apart = a; none-twice = d; elusive = l; few = m }) (refuseUnjoined (s .board) (s .player) 0 (outcomes s)) (walked (s .board) (s .player) 0 (outcomes s))))
 
-  elusive-given : AllFree s → AllApart s → (f : Option Fault) → firstNotElusive s ≡ f → GivenAs w t (judged (fair s >>= satisfying))
+  elusive-given : AllFree s → AllApart s → NoneTwice s → (f : Option Fault) → firstNotElusive s ≡ f → GivenAs w t (judged (fair s >>= satisfying))
   unfolding firstNotElusive
-  elusive-given o a none q = count-given o a (none-elusive s q) (ltb mostOutcomes (outcomeCount s)) refl
-  elusive-given o a (some f) q =
-      subst⁻¹ (GivenAs w t) (fair-refused s _ (fair-elusive s f (free-none s o) (apart-none s a) q))
-      (as-not-elusive s f r o a (first-is (s .board) (λ (v : Wait). v .line) notElusive (everyWait s) f q))
+  elusive-given o a d none q = count-given o a d (none-elusive s q) (ltb mostOutcomes (outcomeCount s)) refl
+  elusive-given o a d (some f) q =
+      subst⁻¹ (GivenAs w t) (fair-refused s _ (fair-elusive s f (free-none s o) (apart-none s a) (none-twice s d) q))
+      (as-not-elusive s f r o a d (first-is (s .board) (λ (v : Wait). v .line) notElusive (everyWait s) f q))
+
+  twice-given : AllFree s → AllApart s → (f : Option Fault) → firstTwice s ≡ f → GivenAs w t (judged (fair s >>= satisfying))
+  twice-given o a none q = elusive-given o a (twice-none s q) (firstNotElusive s) refl
+  twice-given o a (some f) q =
+      subst⁻¹ (GivenAs w t) (fair-refused s _ (fair-twice s f (free-none s o) (apart-none s a) q)) (as-twice s (f .line) r o a (twice-first s f q))
 
   apart-given : AllFree s → (f : Option Fault) → firstNotApart s ≡ f → GivenAs w t (judged (fair s >>= satisfying))
   unfolding firstNotApart
-  apart-given o none q = elusive-given o (none-apart s q) (firstNotElusive s) refl
+  apart-given o none q = twice-given o (none-apart s q) (firstTwice s) refl
   apart-given o (some f) q =
       subst⁻¹ (GivenAs w t) (fair-refused s _ (fair-apart s f (free-none s o) q)) (as-not-apart s f r o (first-is (s .board) (λ (m : Move). m .line) notApart (everyMove s) f q))
 
@@ -328,25 +344,31 @@ walked-all : (b : Board) (p : Player) (n : ℕ) (os : List (List ℕ)) (r : Resu
 walked-all b p n os _ (all h) u e = h
 walked-all b p n os _ (first i k not-so so) u e = absurd (not-refused e)
 
+pub read→ : (w : ℕ) (t : Bytes) (s : Sheet) → read w t ≡ got s → IsRead w t s
+unfolding readUpTo readTextUpTo
+read→ w t s e =
+    let b = then-got (refuseIf (ltb w leastWorkspace) SmallWorkspace) _ s e in
+    let c = then-got (refuseIf (ltb mostBytes (length t)) LongText) _ s (b .2) in
+    record {
+      sizes = record { enough = ltb-false w leastWorkspace (refuseIf-got _ _ _ (b .1)); short = ltb-false mostBytes (length t) (refuseIf-got _ _ _ (c .1)) };
+      spells = reads-exactly t s .0 (c .2);
+    }
+
 fair→ : (w : ℕ) (t : Bytes) (s : Sheet) → (read w t >>= fair) ≡ got s → IsFair w t s
-unfolding readUpTo readTextUpTo fair
+unfolding fair
 fair→ w t s e =
     let a = then-got (read w t) fair s e in
-    let b = then-got (refuseIf (ltb w leastWorkspace) SmallWorkspace) _ (a .0) (a .1) in
-    let c = then-got (refuseIf (ltb mostBytes (length t)) LongText) _ (a .0) (b .2) in
     let o = then-got (refuseFault OnSetUp (firstOnSetUp (a .0))) _ s (a .2) in
     let d = then-got (refuseFault NotApart (firstNotApart (a .0))) _ s (o .2) in
-    let f = then-got (refuseFault NotElusive (firstNotElusive (a .0))) _ s (d .2) in
+    let k = then-got (refuseFault (λ line cell. SameBranch line) (firstTwice (a .0))) _ s (d .2) in
+    let f = then-got (refuseFault NotElusive (firstNotElusive (a .0))) _ s (k .2) in
     let g = then-got (refuseIf (ltb mostOutcomes (outcomeCount (a .0))) TooManyOutcomes) _ s (f .2) in
     let same : a .0 ≡ s = got-inj (g .2) in
     record {
-      read =
-          record {
-            sizes = record { enough = ltb-false w leastWorkspace (refuseIf-got _ _ _ (b .1)); short = ltb-false mostBytes (length t) (refuseIf-got _ _ _ (c .1)) };
-            spells = reads-exactly t s .0 (c .2 ∙ ap got same);
-          };
+      read = read→ w t s (a .1 ∙ ap got same);
       free = none-free s (subst (λ (z : Sheet). firstOnSetUp z ≡ none) same (refuseFault-got _ _ _ (o .1)));
       apart = none-apart s (subst (λ (z : Sheet). firstNotApart z ≡ none) same (refuseFault-got _ _ _ (d .1)));
+      none-twice = twice-none s (subst (λ (z : Sheet). firstTwice z ≡ none) same (refuseFault-got _ _ _ (k .1)));
       elusive = none-elusive s (subst (λ (z : Sheet). firstNotElusive z ≡ none) same (refuseFault-got _ _ _ (f .1)));
       few = subst (λ (z : Sheet). outcomeCount z ≤ mostOutcomes) same (ltb-false mostOutcomes (outcomeCount (a .0)) (refuseIf-got _ _ _ (g .1)));
     }
@@ -355,7 +377,7 @@ fair→ w t s e =
 unfolding readUpTo readTextUpTo refuseIf _>>=_
 →fair w t s h =
     rw (le-ltb w leastWorkspace (h .read .sizes .enough), le-ltb mostBytes (length t) (h .read .sizes .short), reads-exactly t s .1 (h .read .spells))
-    (fair-passed s (free-none s (h .free)) (apart-none s (h .apart)) (elusive-none s (h .elusive)) (h .few))
+    (fair-passed s (free-none s (h .free)) (apart-none s (h .apart)) (none-twice s (h .none-twice)) (elusive-none s (h .elusive)) (h .few))
 
 -- what outcome asks of a sheet
 pub fair-exactly : (w : ℕ) (t : Bytes) (s : Sheet) → ((read w t >>= fair) ≡ got s) ↔ IsFair w t s

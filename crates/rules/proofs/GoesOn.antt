@@ -17,7 +17,7 @@ use Rattle.rules.specs.Outcomes.{outcomeCount}
 use Rattle.rules.specs.Answering.{Game, start, isOver, isTaken, isEmpty, answered}
 use Rattle.rules.specs.Entries.{_>>=_, refuseIf, read, fair, accepted, judged, judge, step, Rounds, stopped, played, rounds, refusedPlay, playedOut, playOn, play, outcomeCells, named, outcome, JudgeKept, PlayKept, playShown, OutcomeKept, outcomeShown}
 use Rattle.rules.specs.Verdict.{told}
-use Rattle.rules.specs.Plain.{IsSheet, IsFair, Given, as-accepted, as-small, as-long, as-unread, as-on-set-up, as-not-apart, as-not-elusive, as-too-many, as-not-joined}
+use Rattle.rules.specs.Plain.{IsSheet, IsFair, Given, as-accepted, as-small, as-long, as-unread, as-on-set-up, as-not-apart, as-twice, as-not-elusive, as-too-many, as-not-joined}
 use Rattle.rules.specs.Promise.{Ruled, no-move, one-move}
 use Rattle.rules.specs.GoesOn.{Refuses, as-after-over, as-no-cell, as-taken, RefusedAt, GivenPlay, play-judged, play-short, play-refused, play-done, GivenOutcome, outcome-judged, outcome-none, outcome-short, outcome-done}
 use Rattle.rules.specs.declared.Played.{Played}
@@ -182,8 +182,9 @@ module _ (w : ℕ) (t : Bytes) where
   given-unjoined _ e (as-unread v h u) = absurd (⊎-elim (λ q. omega (arith, e, q)) (λ q. omega (arith, e, q)) (unread-of u .most))
   given-unjoined _ e (as-on-set-up s f r i) = absurd (omega (arith, e))
   given-unjoined _ e (as-not-apart s f r o i) = absurd (omega (arith, e))
-  given-unjoined _ e (as-not-elusive s f r o a i) = absurd (omega (arith, e))
-  given-unjoined _ e (as-too-many s r o a k l) = absurd (omega (arith, e))
+  given-unjoined _ e (as-twice s l r o a i) = absurd (omega (arith, e))
+  given-unjoined _ e (as-not-elusive s f r o a d i) = absurd (omega (arith, e))
+  given-unjoined _ e (as-too-many s r o a d k l) = absurd (omega (arith, e))
   given-unjoined _ e (as-not-joined s i f h) = (s, f)
 
   -- where the sheet is not fair, judge gives the same refusal

@@ -4,6 +4,7 @@ pub mod Joining
 pub mod Places
 pub mod Outcomes
 pub mod Steps
+pub mod First
 pub mod Decimal
 pub mod ReadBack
 pub mod Lines
@@ -13,6 +14,7 @@ pub mod Reading
 pub mod WellRead
 pub mod Written
 pub mod Smallest
+pub mod Twice
 pub mod Unread
 pub mod Begun
 pub mod Given
@@ -25,6 +27,7 @@ pub mod GoesOn
 pub mod SameReplies
 pub mod UpTo
 pub mod Before
+pub mod Once
 pub mod OneReply
 pub mod Small
 pub mod OneMove

@@ -15,10 +15,11 @@ use Rattle.rules.specs.Answering.{start, answered, next, isEmpty}
 use Rattle.rules.specs.Plain.{IsSheet, WellRead, IsElusive}
 use Rattle.rules.specs.Promise.{Ruled, no-move, one-move, MovesToEmpty}
 use Rattle.rules.specs.Holder.{Chosen, no-round, round}
-use Rattle.rules.specs.Entries.{readUpTo}
+use Rattle.rules.specs.Entries.{read, readUpTo, fair}
 use Rattle.rules.specs.SameReplies.{SameReplies}
 use Rattle.rules.specs.UpTo.{NoSizeFrom}
 use Rattle.rules.specs.Before.{WithoutSetUp, SameWithoutSetUp}
+use Rattle.rules.specs.Once.{WithoutTwice, fairWithout24}
 use Rattle.rules.specs.Samples.{byteOf, sheet, P1, P3, p1, p3, stones, onStones}
 use Rattle.rules.specs.Computed.{p1-accepted, p1-opens, p1-header, p3-read, stones-accepted, stones-open}
 use Rattle.rules.proofs.Steps.{some-inj}
@@ -26,6 +27,7 @@ use Rattle.rules.proofs.Lines.{header-back, no-set-up-line}
 use Rattle.rules.proofs.Unread.{read-no-line}
 use Rattle.rules.proofs.UpTo.{small-same}
 use Rattle.rules.proofs.Before.{same-without}
+use Rattle.rules.proofs.Once.{same-once, accepted-once}
 use Rattle.rules.proofs.Written.{reads-exactly}
 use Rattle.rules.proofs.Given.{accepted-exactly}
 use Rattle.rules.proofs.Cover.{demand-3}
@@ -58,7 +60,7 @@ p1-small =
       rows = λ x e. subst (λ (z : Header × Bytes). z .0 .board .rows < 14) (some-inj (sym p1-header ∙ e)) (omega arith);
     }
 
-pub p1-same : SameReplies (sheet P1) (λ w. readUpTo 13 w (sheet P1))
+pub p1-same : SameReplies (sheet P1) (λ w. readUpTo 13 w (sheet P1)) fair
 p1-same = small-same 13 (omega arith) (sheet P1) p1-small
 
 -- no set-up line stands in P1, so it gets the reply that it got
@@ -72,6 +74,13 @@ p1-bare =
 
 pub p1-same-bare : SameWithoutSetUp (sheet P1)
 p1-same-bare = same-without (sheet P1) p1-bare
+
+-- no wait of P1 has a branch twice, so it gets the reply that it got
+pub p1-once : WithoutTwice (sheet P1)
+p1-once = accepted-once leastWorkspace (sheet P1) p1 p1-accepted
+
+pub p1-same-once : SameReplies (sheet P1) (λ w. read w (sheet P1)) fairWithout24
+p1-same-once = same-once (sheet P1) p1-once
 
 -- from set-up stones of both sides: a sheet, and a game of one round by the rule
 pub stones-sheet : IsSheet leastWorkspace (sheet stones) onStones

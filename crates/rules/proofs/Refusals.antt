@@ -7,7 +7,7 @@ use Rattle.rules.specs.Text.{Bytes}
 use Rattle.rules.specs.Reading.{refused, readSheet}
 use Rattle.rules.specs.Unread.{Unread, no-header, no-line, off-board, stone-off, stone-twice, one-too-many, too-deep, text-ends, text-remains}
 use Rattle.rules.specs.Entries.{judged, judge}
-use Rattle.rules.specs.Plain.{Given, as-accepted, as-small, as-long, as-unread, as-on-set-up, as-not-apart, as-not-elusive, as-too-many, as-not-joined, OfReading, AcceptedAs}
+use Rattle.rules.specs.Plain.{Given, as-accepted, as-small, as-long, as-unread, as-on-set-up, as-not-apart, as-twice, as-not-elusive, as-too-many, as-not-joined, OfReading, AcceptedAs}
 use Rattle.rules.specs.Verdict.{told}
 use Rattle.rules.specs.declared.Counts.{Counts}
 use Rattle.rules.specs.declared.Told.{Told}
@@ -39,8 +39,9 @@ given-zero w t _ e (as-long h l) = absurd (omega (arith, e))
 given-zero w t _ e (as-unread v h u) = absurd (omega (arith, e, unread-of u .least))
 given-zero w t _ e (as-on-set-up s f r i) = absurd (omega (arith, e))
 given-zero w t _ e (as-not-apart s f r o i) = absurd (omega (arith, e))
-given-zero w t _ e (as-not-elusive s f r o a i) = absurd (omega (arith, e))
-given-zero w t _ e (as-too-many s r o a k l) = absurd (omega (arith, e))
+given-zero w t _ e (as-twice s l r o a i) = absurd (omega (arith, e))
+given-zero w t _ e (as-not-elusive s f r o a d i) = absurd (omega (arith, e))
+given-zero w t _ e (as-too-many s r o a d k l) = absurd (omega (arith, e))
 given-zero w t _ e (as-not-joined s i f h) = absurd (omega (arith, e))
 
 -- demand 2, of judge's reply: it is accepted exactly for sheets, with their counts

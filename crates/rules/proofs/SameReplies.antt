@@ -7,7 +7,7 @@ use Rattle.rules.specs.Sizes.{mostBytes, leastWorkspace}
 use Rattle.rules.specs.Text.{Bytes}
 use Rattle.rules.specs.Tree.{Sheet}
 use Rattle.rules.specs.Reading.{Result, readSheet}
-use Rattle.rules.specs.Entries.{_>>=_, refuseIf, readTextUpTo, readUpTo, acceptedOf, accepted, judged, judge, playOf, play, outcomeOf, outcome}
+use Rattle.rules.specs.Entries.{_>>=_, refuseIf, readTextUpTo, readUpTo, fair, acceptedBy, accepted, judged, judge, playOf, play, outcomeBy, outcome}
 use Rattle.rules.specs.SameReplies.{SameReplies}
 use Rattle.rules.specs.declared.Verdict.the-variants.{SmallWorkspace, LongText}
 
@@ -15,11 +15,11 @@ use Rattle.rules.specs.declared.Verdict.the-variants.{SmallWorkspace, Lo
 abbrev pub sized : (workspace : ℕ) → Bytes → Result Sheet → Result Sheet
 sized w t r = refuseIf (ltb w leastWorkspace) SmallWorkspace >>= λ _. refuseIf (ltb mostBytes (length t)) LongText >>= λ _. r
 
-pub same-replies : (t : Bytes) (r : Result Sheet) → readSheet t ≡ r → SameReplies t (λ w. sized w t r)
+pub same-replies : (t : Bytes) (r : Result Sheet) → readSheet t ≡ r → SameReplies t (λ w. sized w t r) fair
 unfolding readUpTo readTextUpTo judge accepted play outcome
 same-replies t r e =
     record {
-      to-judge = λ w. ap (λ (q : Result Sheet). judged (acceptedOf (sized w t q))) e;
-      to-play = λ w xs room. ap (λ (q : Result Sheet). playOf (acceptedOf (sized w t q)) xs room) e;
-      to-outcome = λ w i room. ap (λ (q : Result Sheet). outcomeOf (sized w t q) i room) e;
+      to-judge = λ w. ap (λ (q : Result Sheet). judged (acceptedBy fair (sized w t q))) e;
+      to-play = λ w xs room. ap (λ (q : Result Sheet). playOf (acceptedBy fair (sized w t q)) xs room) e;
+      to-outcome = λ w i room. ap (λ (q : Result Sheet). outcomeBy fair (sized w t q) i room) e;
     }

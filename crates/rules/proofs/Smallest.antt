@@ -5,7 +5,7 @@ use Prim.Native.Nat.{ℕ, zero, suc, _+_, _≤_}
 use native.Mathlib.Nat.{le-antisymm}
 use mathlib.Core.Bool.{Bool, true, false}
 use mathlib.Core.List.{List, [], _∷_, _++_}
-use mathlib.Core.Option.{none, some}
+use mathlib.Core.Option.{Option, none, some}
 use lib.Dec.{T, eqb, eqb-refl, eqb→eq, leb, leb→le}
 use native.Mathlib.Omega.{arith}
 use Rattle.rules.specs.Words.{if_then_else_, _∈_, at-head, in-tail, among, keep, upTo, firstOrNone}
@@ -17,6 +17,7 @@ use Rattle.rules.proofs.Tests.{fst, left, cases}
 use Rattle.rules.proofs.Lists.{in-append, keep-append, keep-in, up-to-in, all-cons, nothing-in}
 use Rattle.rules.proofs.Joining.{listed-in, in-listed}
 use Rattle.rules.proofs.Steps.{none≢some, some-inj}
+use Rattle.rules.proofs.First.{none-each, each-none, first-of, of-first}
 
 -- the first of a list that gets a number more at its end, which is above all before
 first-snoc : (xs : List ℕ) (n : ℕ) → ((y : ℕ) → T (among xs y) → (firstOrNone xs ≤ y) × (y ≤ n))
@@ -105,66 +106,72 @@ module _ {N : Type 0} (b : Board) (line : N → ℕ) (faulty : N → ℕ → Boo
   abbrev pub Clean : N → Type 0
   Clean n = (x : ℕ) → T (isCell b x) → T (faulty n x) → ⊥
 
-  pub none-clean : (ns : List N) → firstFault b line faulty ns ≡ none → (n : N) → n ∈ ns → Clean n
-  unfolding firstFault faultAt
-  none-clean [] e = λ n i. absurd (nothing-in i)
-  none-clean (n ∷ ns) e = go (smallest b (faulty n)) refl (λ k. none-clean ns k)
+  -- the fault of a node: none, or its smallest faulty cell
+  abbrev atNode : N → Option Fault
+  atNode n = faultAt (line n) (smallest b (faulty n))
+
+  none-at : (n : N) → atNode n ≡ none → Clean n
+  none-at n e = go (smallest b (faulty n)) refl e
     where
-      go : (c : ℕ) → smallest b (faulty n) ≡ c → (firstFault b line faulty ns ≡ none → (m : N) → m ∈ ns → Clean m) → (m : N) → m ∈ (n ∷ ns) → Clean m
-      go zero q ih = all-cons Clean n ns (smallest-none b (faulty n) q) (ih (rw (q, faultAt, firstFault) at e))
-      go (suc c) q ih = absurd (none≢some (sym (rw (q, faultAt, firstFault) at e)))
+      go : (c : ℕ) → smallest b (faulty n) ≡ c → faultAt (line n) c ≡ none → Clean n
+      go zero q k = smallest-none b (faulty n) q
+      go (suc c) q k = unfold faultAt in absurd (none≢some (sym k))
+
+  clean-at : (n : N) → Clean n → atNode n ≡ none
+  unfolding faultAt
+  clean-at n h = rw (smallest-zero b (faulty n) h)
+
+  some-at : (n : N) (f : Fault) → atNode n ≡ some f → (f .line ≡ line n) × IsSmallest b (faulty n) (f .cell)
+  some-at n f e = go (smallest b (faulty n)) refl e
+    where
+      go : (c : ℕ) → smallest b (faulty n) ≡ c → faultAt (line n) c ≡ some f → (f .line ≡ line n) × IsSmallest b (faulty n) (f .cell)
+      go zero q k = unfold faultAt in absurd (none≢some k)
+      go (suc c) q k =
+          unfold faultAt in
+          subst (λ (g : Fault). (g .line ≡ line n) × IsSmallest b (faulty n) (g .cell)) (some-inj k) (refl, smallest-some b (faulty n) c q)
+
+  at-some : (n : N) (f : Fault) → f .line ≡ line n → IsSmallest b (faulty n) (f .cell) → atNode n ≡ some f
+  at-some n f l s = ap (faultAt (line n)) (smallest-is b (faulty n) (f .cell) s) ∙ go (f .cell) refl
+    where
+      go : (c : ℕ) → f .cell ≡ c → faultAt (line n) (f .cell) ≡ some f
+      go zero e = absurd (omega (arith, e, cell-pos b (f .cell) (s .is-cell)))
+      go (suc c) e = unfold faultAt in rw e (ap some cc)
+
+  -- over the list
+  pub none-clean : (ns : List N) → firstFault b line faulty ns ≡ none → (n : N) → n ∈ ns → Clean n
+  unfolding firstFault
+  none-clean ns e n i = none-at n (none-each atNode ns e n i)
 
   pub clean-none : (ns : List N) → ((n : N) → n ∈ ns → Clean n) → firstFault b line faulty ns ≡ none
-  unfolding firstFault faultAt
-  clean-none [] h = refl
-  clean-none (n ∷ ns) h = rw (smallest-zero b (faulty n) (h n at-head), faultAt, firstFault) (clean-none ns (λ m i. h m (in-tail i)))
-
-  pub first-is : (ns : List N) (f : Fault) → firstFault b line faulty ns ≡ some f → IsFirst b line faulty ns f
-  unfolding firstFault faultAt
-  first-is [] f e = absurd (none≢some e)
-  first-is (n ∷ ns) f e = go (smallest b (faulty n)) refl (λ k. first-is ns f k)
-    where
-      go : (c : ℕ) → smallest b (faulty n) ≡ c → (firstFault b line faulty ns ≡ some f → IsFirst b line faulty ns f) → IsFirst b line faulty (n ∷ ns) f
-      go zero q ih =
-          let r = ih (rw (q, faultAt, firstFault) at e) in
-          record {
-            before = n ∷ r .before;
-            node = r .node;
-            after = r .after;
-            stands = ap (λ (l : List N). n ∷ l) (r .stands);
-            its-line = r .its-line;
-            its-cell = r .its-cell;
-            smallest-cell = r .smallest-cell;
-            none-before = all-cons Clean n (r .before) (smallest-none b (faulty n) q) (r .none-before);
-          }
-      go (suc c) q ih =
-          let t = smallest-some b (faulty n) c q in
-          subst (IsFirst b line faulty (n ∷ ns)) (some-inj (rw (q, faultAt, firstFault) at e))
-          (record {
-            before = [];
-            node = n;
-            after = ns;
-            stands = refl;
-            its-line = refl;
-            its-cell = (t .is-cell, t .in-set);
-            smallest-cell = t .least;
-            none-before = λ m i. absurd (nothing-in i);
-          })
-
-  first-after : (before : List N) (node : N) (after : List N) → ((n : N) → n ∈ before → Clean n) → (f : Fault) → f .line ≡ line node
-      → IsSmallest b (faulty node) (f .cell) → firstFault b line faulty (before ++ node ∷ after) ≡ some f
-  unfolding firstFault faultAt
-  first-after [] node after clean f l s = rw (smallest-is b (faulty node) (f .cell) s, firstFault) (found (f .cell) refl (s .is-cell))
-    where
-      found : (c : ℕ) → f .cell ≡ c → T (isCell b (f .cell)) → elim (faultAt (line node) (f .cell)) [ some g ↦ some g | none ↦ firstFault b line faulty after ] ≡ some f
-      found zero e i = absurd (omega (arith, e, cell-pos b (f .cell) i))
-      found (suc c) e i = rw (e, faultAt) (ap some (cc))
-  first-after (n ∷ ns) node after clean f l s =
-      rw (smallest-zero b (faulty n) (clean n at-head), faultAt, firstFault) (first-after ns node after (λ m i. clean m (in-tail i)) f l s)
+  unfolding firstFault
+  clean-none ns h = each-none atNode ns (λ n i. clean-at n (h n i))
 
   -- the computed fault is the one that the plain statement names
+  pub first-is : (ns : List N) (f : Fault) → firstFault b line faulty ns ≡ some f → IsFirst b line faulty ns f
+  unfolding firstFault
+  first-is ns f e =
+      let r = first-of atNode ns f e in
+      let k = some-at (r .its) f (r .gives) in
+      record {
+        before = r .before;
+        node = r .its;
+        after = r .after;
+        stands = r .stands;
+        its-line = k .0;
+        its-cell = (k .1 .is-cell, k .1 .in-set);
+        smallest-cell = k .1 .least;
+        none-before = λ n i. none-at n (r .none-before n i);
+      }
+
   pub is-first : (ns : List N) (f : Fault) → IsFirst b line faulty ns f → firstFault b line faulty ns ≡ some f
+  unfolding firstFault
   is-first ns f r =
-      ap (firstFault b line faulty) (r .stands)
-      ∙ first-after (r .before) (r .node) (r .after) (r .none-before) f (r .its-line)
-      (record { is-cell = r .its-cell .0; in-set = r .its-cell .1; least = r .smallest-cell })
+      of-first atNode ns f
+      (record {
+        before = r .before;
+        its = r .node;
+        after = r .after;
+        stands = r .stands;
+        gives = at-some (r .node) f (r .its-line) (record { is-cell = r .its-cell .0; in-set = r .its-cell .1; least = r .smallest-cell });
+        none-before = λ n i. clean-at n (r .none-before n i);
+      })

@@ -7,7 +7,7 @@ use Rattle.rules.specs.Sizes.{largest}
 use Rattle.rules.specs.Text.{Bytes}
 use Rattle.rules.specs.Lines.{Header, headerUpTo, headerLine}
 use Rattle.rules.specs.Reading.{headed, readSheetUpTo, readSheet}
-use Rattle.rules.specs.Entries.{readTextUpTo, readUpTo}
+use Rattle.rules.specs.Entries.{readTextUpTo, readUpTo, fair}
 use Rattle.rules.specs.Unread.{BoardUpTo, BoardSize}
 use Rattle.rules.specs.SameReplies.{SameReplies}
 use Rattle.rules.specs.UpTo.{NoSizeFrom}
@@ -34,6 +34,6 @@ module _ (most : ℕ) (few : most ≤ largest) (t : Bytes) (small : NoSizeFrom (
   unfolding readSheetUpTo
   same-sheet = ap headed same-header
 
-  pub small-same : SameReplies t (λ w. readUpTo most w t)
+  pub small-same : SameReplies t (λ w. readUpTo most w t) fair
   unfolding readUpTo readTextUpTo
   small-same = same-replies t (readSheetUpTo most t) same-sheet

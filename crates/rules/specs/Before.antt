@@ -13,14 +13,14 @@ use Rattle.rules.specs.Tree.{Sheet, stone}
 use Rattle.rules.specs.Written.{writtenHeader}
 use Rattle.rules.specs.Reading.{Result, refused, got, readTree}
 use Rattle.rules.specs.Unread.{BoardSize, NoSetUp}
-use Rattle.rules.specs.Fair.{firstNotApart, firstNotElusive}
+use Rattle.rules.specs.Fair.{firstNotApart, firstTwice, firstNotElusive}
 use Rattle.rules.specs.Outcomes.{outcomesOfWaits, outcomes, outcomeCount}
 use Rattle.rules.specs.Answering.{Game, start, mine}
 use Rattle.rules.specs.Entries.{_>>=_, refuseIf, refuseFault, fair}
 use Rattle.rules.specs.SameReplies.{SameReplies}
 use Rattle.rules.specs.declared.Board.{Board}
 use Rattle.rules.specs.declared.Player.{Player}
-use Rattle.rules.specs.declared.Verdict.the-variants.{SmallWorkspace, LongText, BadHeader, NotApart, NotElusive, TooManyOutcomes}
+use Rattle.rules.specs.declared.Verdict.the-variants.{SmallWorkspace, LongText, BadHeader, NotApart, NotElusive, TooManyOutcomes, SameBranch}
 
 -- no set-up line stands after line 1
 pub record WithoutSetUp (t : Bytes) : Type 0 where
@@ -37,10 +37,11 @@ readBefore w t = do
   _ ← refuseIf (ltb mostBytes (length t)) LongText
   headedBefore (headerLine t)
 
--- then came 10, 11, 12; there was no 20
+-- then came 10 and the checks after it; there was no 20. (24 is C-20's, and asks nothing of set-up stones)
 unfoldable pub fairBefore : Sheet → Result Sheet
 fairBefore s = do
   _ ← refuseFault NotApart (firstNotApart s)
+  _ ← refuseFault (λ line cell. SameBranch line) (firstTwice s)
   _ ← refuseFault NotElusive (firstNotElusive s)
   _ ← refuseIf (ltb mostOutcomes (outcomeCount s)) TooManyOutcomes
   got s
@@ -54,5 +55,5 @@ pub record AsBefore (s : Sheet) : Type 0 where
 
 -- every entry's reply is the one to what was read before, and on a sheet that was read before all is as it was
 pub record SameWithoutSetUp (t : Bytes) : Type 0 where
-  pub replies : SameReplies t (λ w. readBefore w t)
+  pub replies : SameReplies t (λ w. readBefore w t) fair
   pub on-sheets : (w : ℕ) (s : Sheet) → readBefore w t ≡ got s → AsBefore s

@@ -13,7 +13,7 @@ use Rattle.rules.specs.Board.{isCell, listed}
 use Rattle.rules.specs.Joining.{joined}
 use Rattle.rules.specs.Tree.{Sheet, moveCount, waitCount}
 use Rattle.rules.specs.Reading.{Result, refused, got, readSheetUpTo}
-use Rattle.rules.specs.Fair.{Fault, firstOnSetUp, firstNotApart, firstNotElusive}
+use Rattle.rules.specs.Fair.{Fault, firstOnSetUp, firstNotApart, firstTwice, firstNotElusive}
 use Rattle.rules.specs.Outcomes.{outcomes, outcomeCount}
 use Rattle.rules.specs.Answering.{Game, start, isOver, isTaken, answered}
 use Rattle.rules.specs.declared.Board.{Board}
@@ -22,7 +22,7 @@ use Rattle.rules.specs.declared.Counts.{Counts}
 use Rattle.rules.specs.declared.Played.{Played}
 use Rattle.rules.specs.declared.Named.{Named}
 use Rattle.rules.specs.declared.Verdict.{Verdict}
-use Rattle.rules.specs.declared.Verdict.the-variants.{Accepted, Done, SmallWorkspace, LongText, NotApart, NotElusive, TooManyOutcomes, NotJoined, ShortRoom, AfterOver, NoSuchCell, CellTaken, NoSuchOutcome, OnSetUp}
+use Rattle.rules.specs.declared.Verdict.the-variants.{Accepted, Done, SmallWorkspace, LongText, NotApart, NotElusive, TooManyOutcomes, NotJoined, ShortRoom, AfterOver, NoSuchCell, CellTaken, NoSuchOutcome, OnSetUp, SameBranch}
 
 infixl 5 _>>=_
 -- one check after another; a refusal ends them
@@ -63,11 +63,12 @@ readUpTo most w t = do
 abbrev pub read : (workspace : ℕ) → Bytes → Result Sheet
 read w t = readUpTo largest w t
 
--- then 20, 10, 11, 12, each over the whole tree
+-- then 20, 10, 24, 11, 12, each over the whole tree; 24 has no cell
 unfoldable pub fair : Sheet → Result Sheet
 fair s = do
   _ ← refuseFault OnSetUp (firstOnSetUp s)
   _ ← refuseFault NotApart (firstNotApart s)
+  _ ← refuseFault (λ line cell. SameBranch line) (firstTwice s)
   _ ← refuseFault NotElusive (firstNotElusive s)
   _ ← refuseIf (ltb mostOutcomes (outcomeCount s)) TooManyOutcomes
   got s
@@ -78,15 +79,15 @@ satisfying s = do
   _ ← refuseUnjoined (s .board) (s .player) 0 (outcomes s)
   got s
 
--- the sheet that judge accepts, of what was read, or the refusal
-abbrev pub acceptedOf : Result Sheet → Result Sheet
-acceptedOf r = do
+-- the sheet that is accepted by checks that come before 13, of what was read, or the refusal; judge's checks are `fair`
+abbrev pub acceptedBy : (checks : Sheet → Result Sheet) → Result Sheet → Result Sheet
+acceptedBy checks r = do
   s ← r
-  s ← fair s
+  s ← checks s
   satisfying s
 
 unfoldable pub accepted : (workspace : ℕ) → Bytes → Result Sheet
-accepted w t = acceptedOf (read w t)
+accepted w t = acceptedBy fair (read w t)
 
 -- the counts of a sheet that judge accepts: moves, waits and outcomes
 unfoldable pub counts : Sheet → Counts
@@ -161,16 +162,16 @@ named (refused v) = record { verdict = v; cells = [] }
 named (got xs) = record { verdict = Done; cells = xs }
 
 -- outcome does not give 13; it goes on with 18, then 14 (room shorter than the cells)
-abbrev pub outcomeOf : Result Sheet → (number room : ℕ) → OutcomeReply
-outcomeOf r i room = named do
+abbrev pub outcomeBy : (checks : Sheet → Result Sheet) → Result Sheet → (number room : ℕ) → OutcomeReply
+outcomeBy checks r i room = named do
   s ← r
-  s ← fair s
+  s ← checks s
   _ ← refuseIf (not (ltb i (outcomeCount s))) NoSuchOutcome
   _ ← refuseIf (ltb room (length (outcomeCells s i))) ShortRoom
   got (outcomeCells s i)
 
 unfoldable pub outcome : (workspace : ℕ) → Bytes → (number room : ℕ) → OutcomeReply
-outcome w t i room = outcomeOf (read w t) i room
+outcome w t i room = outcomeBy fair (read w t) i room
 
 -- on refusal 1 the workspace is unchanged; otherwise its first 8,192 numbers are 0 on return and the rest unchanged
 unfoldable pub workspaceAfter : List ℕ → List ℕ

@@ -19,6 +19,7 @@ pub mod Plain
 pub mod SameReplies
 pub mod UpTo
 pub mod Before
+pub mod Once
 pub mod Promise
 pub mod Holder
 pub mod GoesOn

@@ -13,7 +13,7 @@ use Rattle.rules.specs.Text.{Bytes}
 use Rattle.rules.specs.Tree.{Waits, noWaits, wait, Moves, noMoves, move, Wait, Move, Stone, Sheet, setUpCells, movesOfWaits, everyMove, everyWait, moveCount, waitCount}
 use Rattle.rules.specs.Written.{written}
 use Rattle.rules.specs.Unread.{BoardSize, Unread}
-use Rattle.rules.specs.Fair.{Fault, inWaits, holding, inEvery, onSetUp, notApart, notElusive}
+use Rattle.rules.specs.Fair.{Fault, inWaits, holding, inEvery, onSetUp, notApart, branches, notElusive}
 use Rattle.rules.specs.Outcomes.{outcomes, outcomeCount}
 use Rattle.rules.specs.Joining.{Joins}
 use Rattle.rules.specs.Entries.{counts}
@@ -80,6 +80,27 @@ pub record IsApart (b : Board) (m : Move) : Type 0 where
   pub own-not-under : T (isCell b (m .cell)) → T (inWaits (m .waits) (m .cell)) → ⊥
   pub in-one-wait : (x : ℕ) → T (isCell b x) → holding (m .waits) x ≤ 1
 
+-- A wait has a branch twice: among the branches of its moves one stands at two places
+pub record StandsTwice (xs : List (List ℕ)) : Type 0 where
+  pub before : List (List ℕ)
+  pub its : List ℕ
+  pub between : List (List ℕ)
+  pub after : List (List ℕ)
+  pub stands : xs ≡ before ++ its ∷ (between ++ its ∷ after)
+
+abbrev pub HasTwice : Wait → Type 0
+HasTwice w = StandsTwice (branches (w .moves))
+
+-- a tree with 0 for the number of each line
+unfoldable mutual
+  pub bareWaits : Waits → Waits
+  bareWaits noWaits = noWaits
+  bareWaits (wait line ms ws) = wait 0 (bareMoves ms) (bareWaits ws)
+
+  pub bareMoves : Moves → Moves
+  bareMoves noMoves = noMoves
+  bareMoves (move line c ws ms) = move 0 c (bareWaits ws) (bareMoves ms)
+
 -- Elusive: no cell of the board is found in every one of the wait's moves
 pub record IsElusive (b : Board) (w : Wait) : Type 0 where
   pub no-cell-in-all : (x : ℕ) → T (isCell b x) → T (inEvery (w .moves) x) → ⊥
@@ -89,6 +110,9 @@ AllFree s = (m : Move) → m ∈ everyMove s → IsFree (s .board) (s .set-up) m
 
 abbrev pub AllApart : Sheet → Type 0
 AllApart s = (m : Move) → m ∈ everyMove s → IsApart (s .board) m
+
+abbrev pub NoneTwice : Sheet → Type 0
+NoneTwice s = (w : Wait) → w ∈ everyWait s → HasTwice w → ⊥
 
 abbrev pub AllElusive : Sheet → Type 0
 AllElusive s = (w : Wait) → w ∈ everyWait s → IsElusive (s .board) w
@@ -111,6 +135,7 @@ pub record IsFair (workspace : ℕ) (t : Bytes) (s : Sheet) : Type 0 where
   pub read : IsRead workspace t s
   pub free : AllFree s
   pub apart : AllApart s
+  pub none-twice : NoneTwice s
   pub elusive : AllElusive s
   pub few : outcomeCount s ≤ mostOutcomes
 
@@ -130,6 +155,16 @@ pub record IsFirst {N : Type 0} (b : Board) (line : N → ℕ) (faulty : N → �
   pub smallest-cell : (x : ℕ) → T (isCell b x) → T (faulty node x) → f .cell ≤ x
   pub none-before : (n : N) → n ∈ before → (x : ℕ) → T (isCell b x) → T (faulty n x) → ⊥
 
+-- A line is that of the first wait with a branch twice
+pub record IsFirstTwice (ws : List Wait) (line : ℕ) : Type 0 where
+  pub before : List Wait
+  pub its-wait : Wait
+  pub after : List Wait
+  pub stands : ws ≡ before ++ its-wait ∷ after
+  pub its-line : line ≡ its-wait .line
+  pub has-twice : HasTwice its-wait
+  pub none-before : (w : Wait) → w ∈ before → HasTwice w → ⊥
+
 -- An outcome's number is the smallest of those that do not join
 pub record IsFirstUnjoined (s : Sheet) (i : ℕ) : Type 0 where
   pub is-number : i < outcomeCount s
@@ -147,9 +182,11 @@ pub data Given (workspace : ℕ) (t : Bytes) : Told → Type 0 where
       → Given workspace t (toldAs 20 (f .line) (f .cell) 0)
   as-not-apart : (s : Sheet) (f : Fault) → IsRead workspace t s → AllFree s → IsFirst (s .board) (λ m. m .line) notApart (everyMove s) f
       → Given workspace t (toldAs 10 (f .line) (f .cell) 0)
-  as-not-elusive : (s : Sheet) (f : Fault) → IsRead workspace t s → AllFree s → AllApart s
+  as-twice : (s : Sheet) (line : ℕ) → IsRead workspace t s → AllFree s → AllApart s → IsFirstTwice (everyWait s) line
+      → Given workspace t (toldAs 24 line 0 0)
+  as-not-elusive : (s : Sheet) (f : Fault) → IsRead workspace t s → AllFree s → AllApart s → NoneTwice s
       → IsFirst (s .board) (λ w. w .line) notElusive (everyWait s) f → Given workspace t (toldAs 11 (f .line) (f .cell) 0)
-  as-too-many : (s : Sheet) → IsRead workspace t s → AllFree s → AllApart s → AllElusive s → mostOutcomes < outcomeCount s
+  as-too-many : (s : Sheet) → IsRead workspace t s → AllFree s → AllApart s → NoneTwice s → AllElusive s → mostOutcomes < outcomeCount s
       → Given workspace t (toldAs 12 0 0 0)
   as-not-joined : (s : Sheet) (i : ℕ) → IsFair workspace t s → IsFirstUnjoined s i → Given workspace t (toldAs 13 0 0 i)
 

@@ -112,7 +112,11 @@ onStones =
 abbrev pub joinedStones : S.String
 joinedStones = "hex 2 2 D/own b1/own b2/m - 0/"
 
--- "Traps for the setter's tool", the sentences of the paper that P1 to P12 do not pin, and those of follow-up C-11
+-- P1 with a typing slip: its wait has a branch twice
+abbrev twins : S.String
+twins = "hex 2 2 D/m b1 1/w 2/m a2 0/m a2 0/"
+
+-- "Traps for the setter's tool", the sentences of the paper that P1 to P12 do not pin, and those of follow-ups C-11 and C-20
 unfoldable pub traps : List Row
 traps =
     row "the first and the third wait share a cell" (judging "hex 3 3 D/m b2 3/w 2/m a1 0/m b1 0/w 2/m a2 0/m c2 0/w 2/m a1 0/m c3 0/") (10 ∷ 2 ∷ 1 ∷ 0 ∷ 0 ∷ 0 ∷ 0 ∷ [])
@@ -158,6 +162,19 @@ traps =
     ∷ row "an outcome lists own stones" (naming stones 0) (0 ∷ 2 ∷ 3 ∷ [])
     ∷ row "an outcome lists own stones, the next" (naming stones 1) (0 ∷ 2 ∷ 4 ∷ [])
     ∷ row "18: no more outcomes" (naming stones 2) (18 ∷ [])
+    ∷ row "24: a wait of two like moves, which was 11" (judging twins) (24 ∷ 3 ∷ 0 ∷ 0 ∷ 0 ∷ 0 ∷ 0 ∷ [])
+    ∷ row "24: in play" (playing twins (1 ∷ [])) (24 ∷ 0 ∷ 0 ∷ [])
+    ∷ row "24: of an outcome" (naming twins 0) (24 ∷ [])
+    ∷ row "24: the first and the third move" (judging "hex 3 3 D/m b2 1/w 3/m b1 0/m c1 0/m b1 0/") (24 ∷ 3 ∷ 0 ∷ 0 ∷ 0 ∷ 0 ∷ 0 ∷ [])
+    ∷ row "24: a wait deep down" (judging "hex 3 3 D/m b2 1/w 2/m b1 1/w 3/m a1 0/m a2 0/m a1 0/m c1 0/") (24 ∷ 5 ∷ 0 ∷ 0 ∷ 0 ∷ 0 ∷ 0 ∷ [])
+    ∷ row "24: the first such wait, whose like branches hold like ones" (judging "hex 3 3 D/m b2 1/w 3/m b1 1/w 3/m a1 0/m a2 0/m a1 0/m c1 0/m b1 1/w 3/m a1 0/m a2 0/m a1 0/") (24 ∷ 3 ∷ 0 ∷ 0 ∷ 0 ∷ 0 ∷ 0 ∷ [])
+    ∷ row "10 before 24" (judging "hex 3 3 D/m b2 2/w 3/m b1 0/m c1 0/m b1 0/w 2/m b1 0/m a3 0/") (10 ∷ 2 ∷ 2 ∷ 0 ∷ 0 ∷ 0 ∷ 0 ∷ [])
+    ∷ row "20 before 24" (judging "hex 2 2 D/own a1/m b1 1/w 3/m a2 0/m a2 0/m a1 0/") (20 ∷ 7 ∷ 1 ∷ 0 ∷ 0 ∷ 0 ∷ 0 ∷ [])
+    ∷ row "24 before 11, which an earlier wait has" (judging "hex 3 3 D/m b2 2/w 1/m b1 0/w 3/m a3 0/m b3 0/m a3 0/") (24 ∷ 5 ∷ 0 ∷ 0 ∷ 0 ∷ 0 ∷ 0 ∷ [])
+    ∷ row "24 after set-up lines" (judging "hex 2 2 D/opp a1/own b1/m - 1/w 2/m a2 0/m a2 0/") (24 ∷ 5 ∷ 0 ∷ 0 ∷ 0 ∷ 0 ∷ 0 ∷ [])
+    ∷ row "no 24: another cell on the last line" (judging "hex 3 3 D/m b2 1/w 3/m b1 1/w 2/m a1 0/m a2 0/m b1 1/w 2/m a1 0/m a3 0/m c1 0/") (13 ∷ 0 ∷ 0 ∷ 0 ∷ 0 ∷ 0 ∷ 0 ∷ [])
+    ∷ row "no 24: another count" (judging "hex 3 3 D/m b2 1/w 3/m b1 1/w 2/m a1 0/m a2 0/m b1 0/m c1 0/") (13 ∷ 0 ∷ 0 ∷ 0 ∷ 0 ∷ 0 ∷ 0 ∷ [])
+    ∷ row "no 24: another order" (judging "hex 3 3 D/m b2 1/w 3/m b1 1/w 2/m a1 0/m a2 0/m b1 1/w 2/m a2 0/m a1 0/m c1 0/") (13 ∷ 0 ∷ 0 ∷ 0 ∷ 0 ∷ 0 ∷ 0 ∷ [])
     ∷ []
 
 unfoldable pub replies : List Row → List (List ℕ)

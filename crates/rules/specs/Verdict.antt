@@ -3,7 +3,7 @@ use Prim.Native.Nat.{ℕ}
 use Rattle.rules.specs.declared.Verdict.{Verdict}
 use Rattle.rules.specs.declared.Told.{Told}
 use Rattle.rules.specs.declared.Counts.{Counts}
-use Rattle.rules.specs.declared.Verdict.the-variants.{Accepted, Done, SmallWorkspace, LongText, BadHeader, BadLine, OffBoard, TooManyNodes, TooDeep, Unfinished, TextAfter, NotApart, NotElusive, TooManyOutcomes, NotJoined, ShortRoom, AfterOver, NoSuchCell, CellTaken, NoSuchOutcome, SetUpTwice, OnSetUp}
+use Rattle.rules.specs.declared.Verdict.the-variants.{Accepted, Done, SmallWorkspace, LongText, BadHeader, BadLine, OffBoard, TooManyNodes, TooDeep, Unfinished, TextAfter, NotApart, NotElusive, TooManyOutcomes, NotJoined, ShortRoom, AfterOver, NoSuchCell, CellTaken, NoSuchOutcome, SetUpTwice, OnSetUp, SameBranch}
 
 -- the counts are 0 on a refusal
 abbrev pub noCounts : Counts
@@ -38,3 +38,4 @@ told CellTaken = toldAs 17 0 0 0
 told NoSuchOutcome = toldAs 18 0 0 0
 told (SetUpTwice l c) = toldAs 19 l c 0
 told (OnSetUp l c) = toldAs 20 l c 0
+told (SameBranch l) = toldAs 24 l 0 0

@@ -1,7 +1,8 @@
 -- Small words that every definition is written with: a choice by a test, and lists.
 use Prim.Native.Nat.{ℕ, zero, suc}
-use mathlib.Core.Bool.{Bool, true, false, _||_}
+use mathlib.Core.Bool.{Bool, true, false, _&&_, _||_}
 use mathlib.Core.List.{List, [], _∷_, _++_}
+use mathlib.Core.Option.{Option, none, some}
 use lib.Dec.{eqb}
 
 infix 5 if_then_else_
@@ -28,6 +29,23 @@ keep p (x ∷ xs) = if p x then x ∷ keep p xs else keep p xs
 unfoldable pub any : {A : Type 0} → (A → Bool) → List A → Bool
 any p [] = false
 any p (x ∷ xs) = p x || any p xs
+
+-- what the first one gives that gives anything
+unfoldable pub firstSome : {A B : Type 0} → (A → Option B) → List A → Option B
+firstSome f [] = none
+firstSome f (x ∷ xs) = elim (f x) [ some y ↦ some y | none ↦ firstSome f xs ]
+
+-- two lists of numbers are the same
+unfoldable pub same : List ℕ → List ℕ → Bool
+same [] [] = true
+same [] (y ∷ ys) = false
+same (x ∷ xs) [] = false
+same (x ∷ xs) (y ∷ ys) = eqb x y && same xs ys
+
+-- one of the lists stands twice
+unfoldable pub twice : List (List ℕ) → Bool
+twice [] = false
+twice (x ∷ xs) = any (same x) xs || twice xs
 
 -- the numbers 1 to n
 unfoldable pub upTo : ℕ → List ℕ

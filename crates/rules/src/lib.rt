@@ -51,6 +51,7 @@ pub enum Verdict {
     NoSuchOutcome,
     SetUpTwice { line: u32, cell: u32 },
     OnSetUp { line: u32, cell: u32 },
+    SameBranch { line: u32 },
 }
 
 // What document 01 says of a verdict: its number, line, cell and index, and the counts.
