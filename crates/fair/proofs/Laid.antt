@@ -9,11 +9,11 @@ use Rattle.rules.specs.Words.{_∈_, at-head, in-tail}
 use Rattle.rules.specs.Tree.{Waits, noWaits, wait, Moves, noMoves, move, Wait, Move, Sheet, everyWait, moveCount, waitCount}
 use Rattle.rules.specs.Plain.{linesOfWaits, linesOfMoves, linesOf, upFrom}
 use Rattle.rules.proofs.Places.{cell-range}
-use Rattle.nodes.specs.Table.{RowOn}
+use Rattle.nodes.specs.Table.{WeighedOn}
 use Rattle.nodes.specs.Order.{TreeNode, isMove, inOrderWaits, inOrderMoves, movesAmong, waitsAmong, InOrder, atEnd, atMove, atWait}
 use Rattle.nodes.specs.Sheets.{HoldsSheet}
 use Rattle.nodes.proofs.Order.{move-in-order, moves-of-waits, waits-of-waits}
-use Rattle.nodes.proofs.Sheets.{sheet-on-board, sheet-cells}
+use Rattle.nodes.proofs.Sheets.{sheet-weighed, sheet-cells}
 use Rattle.fair.specs.Faults.{lineOf, NodeAt, moveAt, waitAt}
 
 -- the tree's nodes stand from node i on, each on its line
@@ -50,7 +50,7 @@ first-line first i (suc n) l ls e =
     record { here = cc; many = n; others = others ∙ ap (λ (k : ℕ). upFrom k n) same }
 
 -- below the root moves have cells, and waits have moves
-laid-from : {b : Board} {t : List ℕ} {i : ℕ} {ns : List TreeNode} (first n : ℕ) → 1 ≤ i → InOrder (RowOn b t) i ns → map lineOf ns ≡ upFrom (i + first) n
+laid-from : {b : Board} {t : List ℕ} {i : ℕ} {ns : List TreeNode} (first n : ℕ) → 1 ≤ i → InOrder (WeighedOn b t) i ns → map lineOf ns ≡ upFrom (i + first) n
     → ((m : Move) → m ∈ movesAmong ns → 1 ≤ m .cell) → ((w : Wait) → w ∈ waitsAmong ns → w .moves ≢ noMoves) → Laid b t first i ns
 unfolding movesAmong waitsAmong
 laid-from first n p atEnd e f g = laidEnd
@@ -67,9 +67,9 @@ treeOf s = isMove (s .root) ∷ inOrderWaits (s .root .waits)
 
 pub sheet-laid : {t : List ℕ} {b : Board} (s : Sheet) → HoldsSheet t b s → Laid b t (s .root .line) 0 (treeOf s)
 unfolding linesOf everyWait
-sheet-laid {t} {b} s h = go (move-in-order (s .root) 0 (sheet-on-board h))
+sheet-laid {t} {b} s h = go (move-in-order (s .root) 0 (sheet-weighed h))
   where
-    go : InOrder (RowOn b t) 0 (treeOf s) → Laid b t (s .root .line) 0 (treeOf s)
+    go : InOrder (WeighedOn b t) 0 (treeOf s) → Laid b t (s .root .line) 0 (treeOf s)
     go (atMove a o) =
         let from : s .root .line ≡ 0 + s .root .line = omega arith in
         let l =

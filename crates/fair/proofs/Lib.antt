@@ -2,4 +2,6 @@ pub mod Found
 pub mod Laid
 pub mod WhichKind
 pub mod Search
+pub mod Rows
+pub mod Branches
 pub mod OneReply

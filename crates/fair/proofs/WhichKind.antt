@@ -11,16 +11,20 @@ use lib.ListN.{length}
 use borrow.Author.Tests.{eq-eqb, ne-eqb}
 use Rattle.rules.specs.declared.Board.{Board}
 use Rattle.rules.specs.Tree.{Moves, noMoves, move, Wait, Move}
+use Rattle.rules.specs.Words.{twice}
 use Rattle.rules.specs.Board.{isCell, smallest}
+use Rattle.rules.specs.Fair.{branches}
 use Rattle.rules.proofs.Tests.{holds-of, both, fst, snd}
 use Rattle.rules.proofs.Smallest.{smallest-is, smallest-zero}
 use Rattle.rules.proofs.Places.{cell-range}
 use Rattle.cells.specs.Cells.{held}
 use Rattle.cells.proofs.Smallest.{smallest-same}
-use Rattle.nodes.specs.Nodes.{aWait, aMove, nodesOfWaits, nodesOfMoves, many}
-use Rattle.nodes.specs.Table.{cellIn, underIn, RowOn, SomeNode, isMoveAt}
+use Rattle.nodes.specs.Nodes.{Nodes, Kind, aWait, aMove, nodesOfWaits, nodesOfMoves, many}
+use Rattle.nodes.specs.Table.{cellIn, underIn, RowOn, WeighedOn, At, SomeNode, isMoveAt}
 use Rattle.nodes.specs.Order.{TreeNode, isMove, isWait}
+use Rattle.nodes.proofs.Table.{at-map}
 use Rattle.fair.specs.Faults.{notFree, atMoves, atWaits, faultyBy, MoveAt, WaitAt, NodeAt, moveAt, waitAt, SomeTreeNode, FoundAtMove, FoundAtWait, LeastAt}
+use Rattle.fair.specs.Twice.{ForkAt, SomeFork, twiceBy}
 use Rattle.fair.specs.declared.Test.{Test}
 
 -- what a set holds is a cell
@@ -32,26 +36,30 @@ held-cell b rows x e = fst (isCell b x) _ (holds-of e)
 pub none-smallest : (b : Board) → smallest b (λ x. false) ≡ 0
 none-smallest b = smallest-zero b (λ x. false) (λ x i h. h)
 
+-- a weighed row on the board is a row on the board
+on-row : {b : Board} {t : List ℕ} (k : Kind) (j c : ℕ) (u : Nodes) → WeighedOn b t k j c u → RowOn b t k j c u
+on-row k j c u r = record { row = r .weight .row; on = r .on }
+
 module _ {b : Board} {t : List ℕ} {i : ℕ} where
-  move-is : (m : Move) → MoveAt b t i m → (1 ≤ i → 1 ≤ m .cell) → isMoveAt t i ≡ true
+  move-is : (m : Move) → At (WeighedOn b t) aMove i (m .cell) (nodesOfWaits (m .waits)) → (1 ≤ i → 1 ≤ m .cell) → isMoveAt t i ≡ true
   move-is m a f =
       ⊎-elim (λ e. rw (eq-eqb i 0 e))
-      (λ p. rw (ne-eqb i 0 (λ e. omega arith), ne-eqb (cellIn t i) 0 (λ e. omega (arith, a .here .row .cell, f p))))
+      (λ p. rw (ne-eqb i 0 (λ e. omega arith), ne-eqb (cellIn t i) 0 (λ e. omega (arith, a .here .weight .row .cell, f p))))
       (eq-zero-or-pos i)
 
-  wait-is : (w : Wait) → WaitAt b t i w → 1 ≤ i → isMoveAt t i ≡ false
-  wait-is w a p = rw (ne-eqb i 0 (λ e. omega arith), eq-eqb (cellIn t i) 0 (a .here .row .cell))
+  wait-is : (w : Wait) → At (WeighedOn b t) aWait i 0 (nodesOfMoves (w .moves)) → 1 ≤ i → isMoveAt t i ≡ false
+  wait-is w a p = rw (ne-eqb i 0 (λ e. omega arith), eq-eqb (cellIn t i) 0 (a .here .weight .row .cell))
 
   -- what is shown of a move where the test says so, and of a wait where it does not
   pub of-move : isMoveAt t i ≡ true → (Q : TreeNode → Type 0) → ((m : Move) → MoveAt b t i m → Q (isMove m))
       → (n : TreeNode) → NodeAt b t i n → Q n
-  of-move e Q f _ (moveAt {m} a g) = f m a
+  of-move e Q f _ (moveAt {m} a g) = f m (at-map on-row a)
   of-move e Q f _ (waitAt {w} a p g) = absurd (true≢false (sym e ∙ wait-is w a p))
 
   pub of-wait : isMoveAt t i ≡ false → (Q : TreeNode → Type 0) → ((w : Wait) → WaitAt b t i w → w .moves ≢ noMoves → Q (isWait w))
       → (n : TreeNode) → NodeAt b t i n → Q n
   of-wait e Q f _ (moveAt {m} a g) = absurd (false≢true (sym e ∙ move-is m a g))
-  of-wait e Q f _ (waitAt {w} a p g) = f w a g
+  of-wait e Q f _ (waitAt {w} a p g) = f w (at-map on-row a) g
 
   pub some-move : isMoveAt t i ≡ true → SomeTreeNode b t i → SomeNode (RowOn b t) aMove i
   some-move e n = of-move e (λ _. SomeNode (RowOn b t) aMove i) (λ m a. record { cell = m .cell; under = nodesOfWaits (m .waits); at = a }) (n .node) (n .at)
@@ -70,8 +78,8 @@ module _ {b : Board} {t : List ℕ} {i : ℕ} where
   node-room n = go (n .at)
     where
       go : {k : TreeNode} → NodeAt b t i k → 4 * i + 3 < length t
-      go (moveAt a g) = a .here .row .room
-      go (waitAt a p g) = a .here .row .room
+      go (moveAt a g) = a .here .weight .row .room
+      go (waitAt a p g) = a .here .weight .row .room
 
   -- by what is asked of moves alone, or of waits alone: the smallest cell found where such a node stands, and none where none does
   module _ (rows : List ℕ) (cell : ℕ) (e : cell ≡ smallest b (held b rows)) where
@@ -93,7 +101,7 @@ module _ {b : Board} {t : List ℕ} {i : ℕ} where
   module _ (rows : List ℕ) (cell : ℕ) (is : cell ≡ cellIn t i) where
     pub stone-there : held b rows cell ≡ true → LeastAt (atMoves (notFree (held b rows))) b t i cell
     stone-there e _ (moveAt {m} a g) =
-        let own : cell ≡ m .cell = is ∙ a .here .row .cell in
+        let own : cell ≡ m .cell = is ∙ a .here .weight .row .cell in
         sym
         (smallest-is b (notFree (held b rows) m) cell
         (record {
@@ -101,16 +109,31 @@ module _ {b : Board} {t : List ℕ} {i : ℕ} where
           in-set = both (eqb cell (m .cell)) (held b rows cell) (holds-of (eq-eqb cell (m .cell) own)) (holds-of e);
           least = λ x k h. omega (arith, own, eqb→eq x (m .cell) (fst (eqb x (m .cell)) (held b rows x) h));
         }))
-    stone-there e _ (waitAt {w} a p g) = absurd (omega (arith, is, a .here .row .cell, cell-range b cell (held-cell b rows cell e) .0))
+    stone-there e _ (waitAt {w} a p g) = absurd (omega (arith, is, a .here .weight .row .cell, cell-range b cell (held-cell b rows cell e) .0))
 
     pub stone-gone : held b rows cell ≡ false → LeastAt (atMoves (notFree (held b rows))) b t i 0
     stone-gone e _ (moveAt {m} a g) =
         sym
         (smallest-zero b (notFree (held b rows) m)
         (λ x k h.
-        let same : x ≡ cell = eqb→eq x (m .cell) (fst (eqb x (m .cell)) (held b rows x) h) ∙ sym (is ∙ a .here .row .cell) in
+        let same : x ≡ cell = eqb→eq x (m .cell) (fst (eqb x (m .cell)) (held b rows x) h) ∙ sym (is ∙ a .here .weight .row .cell) in
         subst T e (subst (λ (y : ℕ). T (held b rows y)) same (snd (eqb x (m .cell)) (held b rows x) h))))
     stone-gone e _ (waitAt {w} a p g) = sym (none-smallest b)
+
+  -- a move has no branch twice; a wait is looked through
+  pub some-fork : isMoveAt t i ≡ false → SomeTreeNode b t i → SomeFork t i
+  some-fork e n = go (n .at)
+    where
+      go : {k : TreeNode} → NodeAt b t i k → SomeFork t i
+      go (moveAt {m} a g) = absurd (false≢true (sym e ∙ move-is m a g))
+      go (waitAt {w} a p g) = record { its = w; at = at-map (λ k j c u r. r .weight) a }
+
+  pub twice-move : isMoveAt t i ≡ true → (n : TreeNode) → NodeAt b t i n → false ≡ twiceBy n
+  twice-move e = of-move e (λ n. false ≡ twiceBy n) (λ m a. refl)
+
+  pub twice-wait : isMoveAt t i ≡ false → {r : Bool} → ((w : Wait) → ForkAt t i w → r ≡ twice (branches (w .moves))) → (n : TreeNode) → NodeAt b t i n → r ≡ twiceBy n
+  twice-wait e h _ (moveAt {m} a g) = absurd (false≢true (sym e ∙ move-is m a g))
+  twice-wait e h _ (waitAt {w} a p g) = h w (at-map (λ k j c u r. r .weight) a)
 
   -- which test it is
   pub by-test : {test is : Test} {cell : ℕ} → test ≡ is → LeastAt (faultyBy is) b t i cell → LeastAt (faultyBy test) b t i cell

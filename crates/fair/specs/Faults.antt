@@ -13,7 +13,7 @@ use Rattle.rules.specs.Tree.{noMoves, Wait, Move, Sheet, everyMove}
 use Rattle.rules.specs.Fair.{Fault, notApart, notElusive, firstFault, firstNotApart, firstNotElusive}
 use Rattle.cells.specs.Cells.{held}
 use Rattle.nodes.specs.Nodes.{aWait, aMove, nodesOfWaits, nodesOfMoves}
-use Rattle.nodes.specs.Table.{RowOn, At}
+use Rattle.nodes.specs.Table.{RowOn, WeighedOn, At}
 use Rattle.nodes.specs.Order.{TreeNode, isMove, isWait}
 use Rattle.fair.specs.declared.Fault as answered
 use Rattle.fair.specs.declared.Test.{Test}
@@ -72,10 +72,10 @@ MoveAt b t i m = At (RowOn b t) aMove i (m .cell) (nodesOfWaits (m .waits))
 abbrev pub WaitAt : Board → List ℕ → ℕ → Wait → Type 0
 WaitAt b t i w = At (RowOn b t) aWait i 0 (nodesOfMoves (w .moves))
 
--- a node of a sheet's tree stands at node i: only the root may have no cell, and it is a move; a wait has a move under it
+-- a node of a sheet's tree stands weighed at node i: only the root may have no cell, and it is a move; a wait has a move under it
 pub data NodeAt (b : Board) (t : List ℕ) (i : ℕ) : TreeNode → Type 0 where
-  moveAt : {m : Move} → MoveAt b t i m → (1 ≤ i → 1 ≤ m .cell) → NodeAt b t i (isMove m)
-  waitAt : {w : Wait} → WaitAt b t i w → 1 ≤ i → w .moves ≢ noMoves → NodeAt b t i (isWait w)
+  moveAt : {m : Move} → At (WeighedOn b t) aMove i (m .cell) (nodesOfWaits (m .waits)) → (1 ≤ i → 1 ≤ m .cell) → NodeAt b t i (isMove m)
+  waitAt : {w : Wait} → At (WeighedOn b t) aWait i 0 (nodesOfMoves (w .moves)) → 1 ≤ i → w .moves ≢ noMoves → NodeAt b t i (isWait w)
 
 -- some node of a tree stands there
 pub record SomeTreeNode (b : Board) (t : List ℕ) (i : ℕ) : Type 0 where

@@ -1,13 +1,19 @@
-// fair: free, apart and elusive, decided over the node table. It holds the three searches for the first faulty node, each with
-// that node's smallest faulty cell. It sees rules, cells and nodes.
-ghost use Prim.Native.Nat.{_≤_};
-ghost use Rattle.rules.specs.Fair.{notApart, notElusive, firstOnSetUp, firstNotApart, firstNotElusive};
-ghost use Rattle.rules.specs.Tree.{Sheet, setUpCells};
+// fair: free, apart, no branch twice and elusive, decided over the node table. It holds the four searches for the first faulty
+// node, each with that node's smallest faulty cell where the fault is a cell's. It sees rules, cells and nodes.
+ghost use mathlib.Core.Path.{_≡_};
+ghost use Prim.Native.Nat.{_+_, _*_, _<_, _≤_};
+ghost use lib.ListN.{length};
+ghost use Rattle.rules.specs.Words.{any, same, twice};
+ghost use Rattle.rules.specs.Fair.{notApart, notElusive, branches, firstOnSetUp, firstNotApart, firstTwice, firstNotElusive};
+ghost use Rattle.rules.specs.Tree.{Wait, Sheet, setUpCells};
+ghost use Rattle.rules.specs.declared.Board as declared;
 ghost use Rattle.cells.specs.Cells.{Holds, Fits};
 ghost use Rattle.nodes.specs.Nodes.{aWait, aMove};
 ghost use Rattle.nodes.specs.Table.{underIn, RowOn, SomeNode};
+ghost use Rattle.nodes.specs.Order.{TreeNode};
 ghost use Rattle.nodes.specs.Sheets.{HoldsSheet, SomeSheet};
-ghost use Rattle.fair.specs.Faults.{FaultFound, firstBy, faultyBy, SomeTreeNode, FoundAtMove, FoundAtWait, LeastAt, OneMoreSet};
+ghost use Rattle.fair.specs.Faults.{FaultFound, firstBy, faultyBy, NodeAt, SomeTreeNode, FoundAtMove, FoundAtWait, LeastAt, OneMoreSet};
+ghost use Rattle.fair.specs.Twice.{sameRow, rowsIn, branchIn, Spans, ForkAt, SomeFork, MovesFrom, twiceBy};
 use cells::Cells;
 use nodes::cell_at;
 use nodes::collect_move;
@@ -170,4 +176,94 @@ pub fn not_elusive(table: &[u32], board: Board) -> Fault
     ensures { λ r. ⌜ ((s : Sheet) → HoldsSheet (now (table .entry)) board s → FaultFound s (firstNotElusive s) r) ⌝ }
 {
     first_fault(table, board, Test::Elusive)
+}
+
+// Whether nodes i and j have the same cell, and as many nodes right under them.
+fn same_row(table: &[u32], i: usize, j: usize) -> bool
+    requires { ⌜ (4 * i + 3 < length (now table)) × (4 * j + 3 < length (now table)) ⌝ }
+    ensures { λ r. ⌜ r ≡ sameRow (now (table .entry)) i j ⌝ }
+{
+    cell_at(table, i) == cell_at(table, j) && under_at(table, i) == under_at(table, j)
+}
+
+// Whether the n rows from node i on are those from node j on.
+fn same_rows(table: &[u32], i: usize, j: usize, n: usize) -> bool
+    requires { ⌜ (4 * (i + n) ≤ length (now table)) × (4 * (j + n) ≤ length (now table)) ⌝ }
+    ensures { λ r. ⌜ r ≡ same (rowsIn (now (table .entry)) i n) (rowsIn (now (table .entry)) j n) ⌝ }
+{
+    for k in 0..n {
+        if !same_row(table, i + k, j + k) {
+            return false;
+        }
+    }
+    true
+}
+
+// Whether the moves at nodes i and j have the same branch: as many rows, and the same ones.
+fn same_branch(table: &[u32], i: usize, j: usize) -> bool
+    requires { ⌜ Spans (now table) i × Spans (now table) j ⌝ }
+    ensures { λ r. ⌜ r ≡ same (branchIn (now (table .entry)) i) (branchIn (now (table .entry)) j) ⌝ }
+{
+    let rows = end_at(table, i) - i;
+    if end_at(table, j) - j != rows {
+        return false;
+    }
+    same_rows(table, i, j, rows)
+}
+
+// Whether one of the moves from node `from` up to node `end` has the branch of the move at node i.
+fn again_from(table: &[u32], i: usize, from: usize, end: usize) -> bool
+    requires { ⌜ Spans (now table) i × MovesFrom (now table) from end ⌝ }
+    ensures { λ r. ⌜ ((ms : MovesFrom (now (table .entry)) from end) → r ≡ any (same (branchIn (now (table .entry)) i)) (branches (ms .moves))) ⌝ }
+{
+    let mut j = from;
+    while j < end {
+        if same_branch(table, i, j) {
+            return true;
+        }
+        j = end_at(table, j);
+    }
+    false
+}
+
+// Whether the wait at node i has a branch twice.
+fn twice_at(table: &[u32], i: usize) -> bool
+    requires { ⌜ SomeFork (now table) i ⌝ }
+    ensures { λ r. ⌜ ((w : Wait) → ForkAt (now (table .entry)) i w → r ≡ twice (branches (w .moves))) ⌝ }
+{
+    let end = end_at(table, i);
+    let mut j = i + 1;
+    while j < end {
+        let next = end_at(table, j);
+        if again_from(table, j, next, end) {
+            return true;
+        }
+        j = next;
+    }
+    false
+}
+
+// Whether node i is a wait that has a branch twice.
+fn has_twice(table: &[u32], i: usize) -> bool
+    requires { ⌜ ((b : declared.Board) × SomeTreeNode b (now table) i) ⌝ }
+    ensures { λ r. ⌜ ((b : declared.Board) (n : TreeNode) → NodeAt b (now (table .entry)) i n → r ≡ twiceBy n) ⌝ }
+{
+    if is_move(table, i) {
+        return false;
+    }
+    twice_at(table, i)
+}
+
+// 24: the first wait that has a branch twice. (It has no faulty cell: 0.)
+pub fn branch_twice(table: &[u32]) -> Fault
+    requires { ⌜ ((b : declared.Board) × SomeSheet (now table) b) ⌝ }
+    ensures { λ r. ⌜ ((b : declared.Board) (s : Sheet) → HoldsSheet (now (table .entry)) b s → FaultFound s (firstTwice s) r) ⌝ }
+{
+    let nodes = end_at(table, 0);
+    for i in 0..nodes {
+        if has_twice(table, i) {
+            return Fault::At { node: i, cell: 0 };
+        }
+    }
+    Fault::Nothing
 }

@@ -15,12 +15,11 @@ use Rattle.rules.specs.declared.Verdict.the-variants.{Accepted, NotJoined}
 use Rattle.rules.proofs.Given.{fault-joined}
 use Rattle.rules.proofs.WellRead.{nodes-of-waits}
 use Rattle.cells.specs.Cells.{Holds}
-use Rattle.nodes.specs.Table.{WeighedOn, At, endIn}
+use Rattle.nodes.specs.Table.{endIn}
 use Rattle.nodes.specs.Nodes.{aMove, nodesOfWaits}
 use Rattle.nodes.specs.Sheets.{HoldsSheet}
-use Rattle.nodes.proofs.Table.{weighed-on-at}
 use Rattle.nodes.proofs.Trees.{waits-size}
-use Rattle.nodes.proofs.Sheets.{sheet-cells, sheet-on-board, sheet-end}
+use Rattle.nodes.proofs.Sheets.{sheet-cells, sheet-weighed, sheet-end}
 use Rattle.outcomes.specs.Searching.{Countable, UnjoinedFound, refusal}
 use Rattle.outcomes.proofs.Seating.{waits-seated}
 use Rattle.outcomes.specs.declared.Unjoined.{Unjoined}
@@ -38,15 +37,11 @@ module _ (s : Sheet) (check : Result Sheet) (r : FairRead) (h : Tells s check r)
   refused-of v e = subst (Tells s check) e h
 
 module _ {t : List ℕ} {b : Board} {s : Sheet} (h : HoldsSheet t b s) where
-  -- its tree has its ends and counts, and its cells are on the board
-  pub sheet-weighed : At (WeighedOn b t) aMove 0 (s .root .cell) (nodesOfWaits (s .root .waits))
-  sheet-weighed = weighed-on-at (h .root) (sheet-on-board h)
-
   pub countable : (count : ℕ) → Passed s (fair s) count → Countable b t 0 (s .root .cell) (s .root .waits)
   unfolding outcomeCount everyWait
   countable count f =
       record {
-        at = sheet-weighed;
+        at = sheet-weighed h;
         seated = waits-seated b (s .root .waits) (sheet-cells h) (h .well .some-moves) (h .root .below);
         few = omega (arith, f .counted, f .few);
       }

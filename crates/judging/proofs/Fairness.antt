@@ -1,4 +1,4 @@
--- 20, 10, 11 and 12 of a held sheet, each with those after it, from what the searches and the table tell.
+-- 20, 10, 24, 11 and 12 of a held sheet, each with those after it, from what the searches and the table tell.
 use mathlib.Core.Path.{_≡_, sym, ap, ap₂, _∙_, subst, subst⁻¹}
 use mathlib.Core.Bool.{_||_}
 use mathlib.Core.List.{List}
@@ -10,12 +10,12 @@ use borrow.Author.Tests.{lt-ltb, le-ltb}
 use Rattle.rules.specs.Sizes.{mostNodes, mostOutcomes}
 use Rattle.rules.specs.Tree.{Sheet, setUpCells}
 use Rattle.rules.specs.Reading.{Result, refused}
-use Rattle.rules.specs.Fair.{Fault, firstOnSetUp, firstNotApart, firstNotElusive}
+use Rattle.rules.specs.Fair.{Fault, firstOnSetUp, firstNotApart, firstTwice, firstNotElusive}
 use Rattle.rules.specs.Outcomes.{outcomeCount}
 use Rattle.rules.specs.Entries.{_>>=_, refuseIf, refuseFault, fair}
 use Rattle.rules.specs.declared.Board.{Board}
 use Rattle.rules.specs.declared.Verdict.{Verdict}
-use Rattle.rules.specs.declared.Verdict.the-variants.{OnSetUp, NotApart, NotElusive, TooManyOutcomes}
+use Rattle.rules.specs.declared.Verdict.the-variants.{OnSetUp, NotApart, NotElusive, TooManyOutcomes, SameBranch}
 use Rattle.rules.proofs.Lists.{none-long}
 use Rattle.rules.proofs.SetUp.{either-side}
 use Rattle.rules.proofs.Given.{bare-free}
@@ -27,7 +27,7 @@ use Rattle.nodes.specs.declared.SetUp.{SetUp}
 use Rattle.nodes.proofs.Trees.{waits-count}
 use Rattle.fair.specs.Faults.{faultSeen, FaultLow, FaultFound}
 use Rattle.fair.specs.declared.Fault as answered
-use Rattle.judging.specs.Checked.{fromApart, fromElusive, fromCount, Passed, Tells}
+use Rattle.judging.specs.Checked.{fromApart, fromTwice, fromElusive, fromCount, Passed, Tells}
 use Rattle.judging.specs.declared.FairRead.{FairRead}
 
 -- a search for a fault, and the checks after it
@@ -70,7 +70,7 @@ module _ {t : List ℕ} {b : Board} {s : Sheet} (h : HoldsSheet t b s) where
       not-free-told i c line e l = at-fault OnSetUp _ s (firstOnSetUp s) r i c line k e (on-line i line l)
 
       pub free-told : r ≡ answered.the-variants.Nothing → (a : FairRead) → Tells s (fromApart s) a → Tells s (fair s) a
-      unfolding fair fromApart fromElusive fromCount
+      unfolding fair fromApart fromTwice fromElusive fromCount
       free-told e a = no-fault OnSetUp (fromApart s) s (firstOnSetUp s) r k e a
 
     -- 10
@@ -79,9 +79,19 @@ module _ {t : List ℕ} {b : Board} {s : Sheet} (h : HoldsSheet t b s) where
       unfolding fromApart
       not-apart-told i c line e l = at-fault NotApart _ s (firstNotApart s) r i c line k e (on-line i line l)
 
-      pub apart-told : r ≡ answered.the-variants.Nothing → (a : FairRead) → Tells s (fromElusive s) a → Tells s (fromApart s) a
+      pub apart-told : r ≡ answered.the-variants.Nothing → (a : FairRead) → Tells s (fromTwice s) a → Tells s (fromApart s) a
       unfolding fromApart
-      apart-told e a = no-fault NotApart (fromElusive s) s (firstNotApart s) r k e a
+      apart-told e a = no-fault NotApart (fromTwice s) s (firstNotApart s) r k e a
+
+    -- 24
+    module _ (r : answered.Fault) (k : FaultFound s (firstTwice s) r) where
+      pub twice-told : (i c line : ℕ) → r ≡ answered.the-variants.At i c → line ≡ i + first → fromTwice s ≡ refused (SameBranch line)
+      unfolding fromTwice
+      twice-told i c line e l = at-fault (λ line cell. SameBranch line) _ s (firstTwice s) r i c line k e (on-line i line l)
+
+      pub single-told : r ≡ answered.the-variants.Nothing → (a : FairRead) → Tells s (fromElusive s) a → Tells s (fromTwice s) a
+      unfolding fromTwice
+      single-told e a = no-fault (λ line cell. SameBranch line) (fromElusive s) s (firstTwice s) r k e a
 
     -- 11
     module _ (r : answered.Fault) (k : FaultFound s (firstNotElusive s) r) where
@@ -95,7 +105,7 @@ module _ {t : List ℕ} {b : Board} {s : Sheet} (h : HoldsSheet t b s) where
 
     -- where the first node stands on line 2 no stone was set up, so no move is on one
     pub none-told : first ≡ 2 → (a : FairRead) → Tells s (fromApart s) a → Tells s (fair s) a
-    unfolding fair fromApart fromElusive fromCount refuseFault _>>=_
+    unfolding fair fromApart fromTwice fromElusive fromCount refuseFault _>>=_
     none-told e a t =
         let none-set-up : length (s .set-up) ≡ 0 = omega (arith, on, h .well .first-line) in
         subst⁻¹ (λ (z : Result Sheet). Tells s z a) (ap (λ (o : Option Fault). refuseFault OnSetUp o >>= λ u. fromApart s) (bare-free s (none-long (s .set-up) none-set-up))) t

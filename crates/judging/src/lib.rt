@@ -7,8 +7,9 @@ ghost use Rattle.rules.specs.Tree.{Sheet, moveCount};
 ghost use Rattle.rules.specs.Entries.{fair, judged};
 ghost use Rattle.rules.specs.declared.Board as declared;
 ghost use Rattle.nodes.specs.Sheets.{HoldsSheet, SomeSheet, HoldsWhole, SomeWhole};
-ghost use Rattle.judging.specs.Checked.{fromApart, fromElusive, fromCount, passing, Tells};
+ghost use Rattle.judging.specs.Checked.{fromApart, fromTwice, fromElusive, fromCount, passing, Tells};
 use fair::Fault;
+use fair::branch_twice;
 use fair::not_apart;
 use fair::not_elusive;
 use fair::on_set_up;
@@ -68,7 +69,22 @@ fn elusive_on(table: &[u32], board: Board, first: u32) -> FairRead
     few_on(table, board)
 }
 
-// 10: a move that is not apart; and then 11, 12.
+// 24: a wait that has a branch twice; and then 11, 12.
+fn single_on(table: &[u32], board: Board, first: u32) -> FairRead
+    requires holds { ⌜ SomeSheet (now table) board ⌝ }
+    requires low { ⌜ first ≤ mostBytes + 2 ⌝ }
+    ensures { λ r. ⌜ ((s : Sheet) → HoldsSheet (now (table .entry)) board s → first ≡ s .root .line → Tells s (fromTwice s) r) ⌝ }
+{
+    if let Fault::At { node, .. } = branch_twice(table) {
+        let line = line_of(node, first);
+        return FairRead::Refused {
+            verdict: Verdict::SameBranch { line },
+        };
+    }
+    elusive_on(table, board, first)
+}
+
+// 10: a move that is not apart; and then 24, 11, 12.
 fn apart_on(table: &[u32], board: Board, first: u32) -> FairRead
     requires holds { ⌜ SomeSheet (now table) board ⌝ }
     requires low { ⌜ first ≤ mostBytes + 2 ⌝ }
@@ -80,10 +96,10 @@ fn apart_on(table: &[u32], board: Board, first: u32) -> FairRead
             verdict: Verdict::NotApart { line, cell },
         };
     }
-    elusive_on(table, board, first)
+    single_on(table, board, first)
 }
 
-// 20: a move on a set-up stone; and then 10, 11, 12.
+// 20: a move on a set-up stone; and then 10, 24, 11, 12.
 fn free_on(table: &[u32], board: Board, setup: SetUp) -> FairRead
     requires { ⌜ SomeWhole (now table) board setup ⌝ }
     ensures { λ r. ⌜ ((s : Sheet) → HoldsWhole (now (table .entry)) board setup s → Tells s (fair s) r) ⌝ }
@@ -101,7 +117,7 @@ fn free_on(table: &[u32], board: Board, setup: SetUp) -> FairRead
     apart_on(table, board, first)
 }
 
-// Whether the sheet in the table is fair: 20, 10, 11, 12. Where the first node stands on line 2 there is no stone for 20.
+// Whether the sheet in the table is fair: 20, 10, 24, 11, 12. Where the first node stands on line 2 there is no stone for 20.
 pub fn fair_sheet(table: &[u32], board: Board, setup: SetUp) -> FairRead
     requires { ⌜ SomeWhole (now table) board setup ⌝ }
     ensures { λ r. ⌜ ((s : Sheet) → HoldsWhole (now (table .entry)) board setup s → Tells s (fair s) r) ⌝ }
@@ -130,7 +146,7 @@ fn count_moves(table: &[u32]) -> usize
     moves
 }
 
-// Whether the sheet in the table is fair and satisfying: 20, 10, 11, 12, 13.
+// Whether the sheet in the table is fair and satisfying: 20, 10, 24, 11, 12, 13.
 pub fn accept_sheet(table: &[u32], board: Board, player: Player, setup: SetUp) -> FairRead
     requires { ⌜ SomeWhole (now table) board setup ⌝ }
     ensures { λ r. ⌜ ((s : Sheet) → HoldsWhole (now (table .entry)) board setup s → s .player ≡ player → Tells s (passing s) r) ⌝ }

@@ -12,9 +12,9 @@ use Rattle.rules.specs.Tree.{Move, Sheet, movesOfWaits}
 use Rattle.cells.proofs.Places.{size-fits}
 use Rattle.cells.specs.Cells.{Fits}
 use Rattle.nodes.specs.Nodes.{aMove, nodesOfWaits, size}
-use Rattle.nodes.specs.Table.{endIn, Row, RowOn, At}
+use Rattle.nodes.specs.Table.{endIn, Row, RowOn, WeighedOn, At}
 use Rattle.nodes.specs.Sheets.{HoldsSheet}
-use Rattle.nodes.proofs.Table.{stand-of-weighed}
+use Rattle.nodes.proofs.Table.{stand-of-weighed, weighed-on-at}
 use Rattle.nodes.proofs.Trees.{root-on-board}
 
 module _ {t : List ℕ} {b : Board} {s : Sheet} (h : HoldsSheet t b s) where
@@ -36,6 +36,10 @@ module _ {t : List ℕ} {b : Board} {s : Sheet} (h : HoldsSheet t b s) where
       root-on-board b (s .root .cell) (s .root .waits)
       (subst (λ (z : Board). (s .root .cell ≡ 0) ⊎ T (isCell z (s .root .cell))) (h .on) (h .well .root-on-board))
       sheet-cells sheet-stands
+
+  -- it has its ends and counts too
+  pub sheet-weighed : At (WeighedOn b t) aMove 0 (s .root .cell) (nodesOfWaits (s .root .waits))
+  sheet-weighed = weighed-on-at (h .root) sheet-on-board
 
   -- where it ends
   pub sheet-end : endIn t 0 ≡ suc (size (nodesOfWaits (s .root .waits)))

@@ -25,6 +25,10 @@ pub each-both : {P Q R : Property} {k : Kind} {i : ℕ} {n : Nodes} → ((k : Ki
 each-both f nothing nothing = nothing
 each-both f (first p below rest) (first q below′ rest′) = first (f _ _ _ _ p q) (each-both f below below′) (each-both f rest rest′)
 
+-- so of one node and all under it
+pub at-map : {P Q : Property} {k : Kind} {i c : ℕ} {u : Nodes} → ((k : Kind) (j c : ℕ) (u : Nodes) → P k j c u → Q k j c u) → At P k i c u → At Q k i c u
+at-map f n = record { here = f _ _ _ _ (n .here); below = each-map (λ k j c u from to p. f k j c u p) (n .below) }
+
 -- one node, as nodes side by side
 pub alone-at : {P : Property} {k : Kind} {i c : ℕ} {u : Nodes} → Each P k i (alone c u) → At P k i c u
 alone-at (first p below rest) = record { here = p; below = below }

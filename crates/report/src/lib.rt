@@ -62,6 +62,7 @@ pub fn tell(v: Verdict) -> Told
         Verdict::NoSuchOutcome => refusal(18, 0, 0, 0),
         Verdict::SetUpTwice { line, cell } => refusal(19, line, cell, 0),
         Verdict::OnSetUp { line, cell } => refusal(20, line, cell, 0),
+        Verdict::SameBranch { line } => refusal(24, line, 0, 0),
     }
 }
 

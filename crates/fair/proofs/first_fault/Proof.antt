@@ -4,12 +4,12 @@ use native.Mathlib.Omega.{arith}
 use Rattle.nodes.proofs.Table.{node-end}
 use Rattle.nodes.proofs.Sheets.{sheet-fits, sheet-stands, sheet-end}
 use Rattle.fair.specs.Faults.{firstBy, faultyBy}
-use Rattle.fair.proofs.Search.{Searching, tree-first, search-starts, search-node, search-again, search-found, search-ends, search-low}
+use Rattle.fair.proofs.Search.{leastFault, tree-first, least-none, least-some, least-low, Searching, search-starts, search-node, search-again, search-found, search-ends}
 use Rattle.fair.proofs.first_fault.Statement.{statement}
 use Rattle.fair.proofs.first_fault.Tie as tie
 
 abbrev Inv-loop : tie.InvT-loop
-Inv-loop table board test end i₀ i = (i ≤ end) × Searching (firstBy test) (faultyBy test) board table i end
+Inv-loop table board test end i₀ i = (i ≤ end) × Searching (firstBy test) (leastFault (faultyBy test)) board table i end
 
 abbrev μ-loop : tie.MeasureT-loop
 μ-loop table board test end i₀ i = end - i
@@ -28,14 +28,14 @@ fault-at-requires c κs =
 cast-t8 : tie.Need-cast-t8 Inv-loop μ-loop
 cast-t8 c =
     let s = c .before .before .before .before .before .before .pre in
-    let low = search-low (c .before .before .before .loop .inv .1) (omega arith) _ (c .before .fault-at .ensures) s (sheet-fits (s .held)) (c .if1 .taken) in
+    let low = least-low _ (c .before .fault-at .ensures) (search-node (c .before .before .before .loop .inv .1) (omega arith) s) (sheet-fits (s .held)) (c .if1 .taken) in
     omega (arith, low)
 
 returns : tie.Need-returns Inv-loop μ-loop
 returns c = λ s h.
     let l = c .before .before .before .loop in
     let end = c .before .before .before .before .end-at .ensures in
-    search-found (l .inv .1) (omega arith) _ (c .before .fault-at .ensures) (c .if1 .taken) s h
+    search-found (l .inv .1) (omega arith) _ (least-some _ (c .before .fault-at .ensures) (c .if1 .taken)) s h
     (omega (arith, end, sheet-end h, node-end (sheet-stands h), h .long))
 
 add-i : tie.Need-add-i Inv-loop μ-loop
@@ -47,7 +47,7 @@ loop-less c = omega arith
 loop-again : tie.Need-loop-again Inv-loop μ-loop
 loop-again c =
     let l = c .before .before .before .loop in
-    (omega arith, search-again (l .inv .1) (omega arith) _ (c .before .fault-at .ensures) (c .if1 .left))
+    (omega arith, search-again (l .inv .1) (omega arith) (least-none _ (c .before .fault-at .ensures) (c .if1 .left)))
 
 returns-2 : tie.Need-returns-2 Inv-loop μ-loop
 returns-2 c = search-ends (c .before .loop .inv .1) (omega arith)

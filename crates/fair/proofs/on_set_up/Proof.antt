@@ -10,12 +10,12 @@ use Rattle.nodes.proofs.Table.{node-end}
 use Rattle.nodes.proofs.Sheets.{sheet-fits, sheet-stands, sheet-end}
 use Rattle.fair.specs.Faults.{notFree, firstFree, atMoves}
 use Rattle.fair.proofs.WhichKind.{node-room, held-cell, stone-there, stone-gone}
-use Rattle.fair.proofs.Search.{Searching, tree-free, set-up-found, search-starts, search-node, search-again, search-found, search-ends, search-low}
+use Rattle.fair.proofs.Search.{leastFault, tree-free, least-none, least-some, least-low, Searching, search-starts, search-node, search-again, search-found, search-ends, set-up-found}
 use Rattle.fair.proofs.on_set_up.Statement.{statement}
 use Rattle.fair.proofs.on_set_up.Tie as tie
 
 abbrev Inv-loop : tie.InvT-loop
-Inv-loop table board stones nodes i₀ i = (i ≤ nodes) × Searching (firstFree (held board (stones .rows))) (atMoves (notFree (held board (stones .rows)))) board table i nodes
+Inv-loop table board stones nodes i₀ i = (i ≤ nodes) × Searching (firstFree (held board (stones .rows))) (leastFault (atMoves (notFree (held board (stones .rows))))) board table i nodes
 
 abbrev μ-loop : tie.MeasureT-loop
 μ-loop table board stones nodes i₀ i = nodes - i
@@ -47,7 +47,7 @@ cast-t9 : tie.Need-cast-t9 Inv-loop μ-loop
 cast-t9 c =
     let s = entry c .pre in
     let least = stone-there _ _ (c .before .before .cell-at .ensures) (on-stone c) in
-    let low = search-low (c .before .before .before .before .loop .inv .1) (omega arith) _ least s (sheet-fits (s .held)) (is-cell c) in
+    let low = least-low _ least (search-node (c .before .before .before .before .loop .inv .1) (omega arith) s) (sheet-fits (s .held)) (is-cell c) in
     omega (arith, low)
 
 returns : tie.Need-returns Inv-loop μ-loop
@@ -55,7 +55,7 @@ returns c = λ s h e.
     let end = c .before .before .before .before .before .end-at .ensures in
     let least = stone-there _ _ (c .before .before .cell-at .ensures) (on-stone c) in
     set-up-found _ (e .same)
-    (search-found (c .before .before .before .before .loop .inv .1) (omega arith) _ least (is-cell c) s h
+    (search-found (c .before .before .before .before .loop .inv .1) (omega arith) _ (least-some _ least (is-cell c)) s h
     (omega (arith, end, sheet-end h, node-end (sheet-stands h), h .long)))
 
 add-i : tie.Need-add-i Inv-loop μ-loop
@@ -67,7 +67,7 @@ loop-less c = omega arith
 loop-again : tie.Need-loop-again Inv-loop μ-loop
 loop-again c =
     let gone = stone-gone _ _ (c .before .before .cell-at .ensures) (sym (c .before .has .ensures) ∙ c .if1 .left) in
-    (omega arith, search-again (c .before .before .before .before .loop .inv .1) (omega arith) _ gone refl)
+    (omega arith, search-again (c .before .before .before .before .loop .inv .1) (omega arith) (least-none _ gone refl))
 
 returns-2 : tie.Need-returns-2 Inv-loop μ-loop
 returns-2 c = λ s h e. set-up-found _ (e .same) (search-ends (c .before .loop .inv .1) (omega arith) s h)

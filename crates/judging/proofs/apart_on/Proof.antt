@@ -21,11 +21,11 @@ returns c = λ s h on. not-apart-told h _ on _ (c .before .before .before .befor
 enum-told : tie.Need-enum-told
 enum-told c = search needs
 
-elusive-on-requires : tie.Need-elusive-on-requires
-elusive-on-requires c κs = search needs
+single-on-requires : tie.Need-single-on-requires
+single-on-requires c κs = search needs
 
 returns-2 : tie.Need-returns-2
-returns-2 c = λ s h on. apart-told h _ on _ (c .before .before .before .not-apart .ensures s h) (c .before .enum-told .given .1) (c .elusive-on .result) (c .elusive-on .ensures s h on)
+returns-2 c = λ s h on. apart-told h _ on _ (c .before .before .before .not-apart .ensures s h) (c .before .enum-told .given .1) (c .single-on .result) (c .single-on .ensures s h on)
 
 pub apart-on-spec : {M : Type 1} → statement M
-apart-on-spec = tie.close (tie.spec not-apart-requires enum-known-node line-of-requires returns enum-told elusive-on-requires returns-2)
+apart-on-spec = tie.close (tie.spec not-apart-requires enum-known-node line-of-requires returns enum-told single-on-requires returns-2)

@@ -10,7 +10,7 @@ use Rattle.report.proofs.tell.Tie as tie
 by-case : (v w : Verdict) (t : Told) → v ≡ w → t ≡ told w → t ≡ told v
 by-case v w t e f = f ∙ sym (ap told e)
 
--- the cases and the calls are for the search; the twenty-two returns are by case
+-- the cases and the calls are for the search; the twenty-three returns are by case
 pub tell-spec : {M : Type 1} → statement M
 tell-spec =
     tie.close
@@ -29,10 +29,10 @@ tell-spec =
     (search needs) (search needs) (search needs)
     (search needs) (search needs) (search needs)
     (search needs) (search needs) (search needs)
-    (search needs)
+    (search needs) (search needs) (search needs)
     (λ c. search by-case) (λ c. search by-case) (λ c. search by-case) (λ c. search by-case)
     (λ c. search by-case) (λ c. search by-case) (λ c. search by-case) (λ c. search by-case)
     (λ c. search by-case) (λ c. search by-case) (λ c. search by-case) (λ c. search by-case)
     (λ c. search by-case) (λ c. search by-case) (λ c. search by-case) (λ c. search by-case)
     (λ c. search by-case) (λ c. search by-case) (λ c. search by-case) (λ c. search by-case)
-    (λ c. search by-case) (λ c. search by-case))
+    (λ c. search by-case) (λ c. search by-case) (λ c. search by-case))
