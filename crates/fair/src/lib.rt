@@ -259,10 +259,10 @@ pub fn branch_twice(table: &[u32]) -> Fault
     requires { ⌜ ((b : declared.Board) × SomeSheet (now table) b) ⌝ }
     ensures { λ r. ⌜ ((b : declared.Board) (s : Sheet) → HoldsSheet (now (table .entry)) b s → FaultFound s (firstTwice s) r) ⌝ }
 {
-    let nodes = end_at(table, 0);
-    for i in 0..nodes {
-        if has_twice(table, i) {
-            return Fault::At { node: i, cell: 0 };
+    let end = end_at(table, 0);
+    for node in 0..end {
+        if has_twice(table, node) {
+            return Fault::At { node, cell: 0 };
         }
     }
     Fault::Nothing

@@ -24,10 +24,10 @@ use Rattle.cells.specs.Cells.{held, Listed}
 use Rattle.cells.proofs.Smallest.{listed-same}
 use Rattle.nodes.specs.Sheets.{HoldsWhole}
 use Rattle.nodes.specs.declared.SetUp.{SetUp}
+use Rattle.nodes.proofs.Sheets.{sheet-weighed}
 use Rattle.outcomes.specs.Picking.{MovePick, SomeMovePick, MovePicked}
 use Rattle.judging.specs.Checked.{Passed}
 use Rattle.sheet.specs.Naming.{listing, naming, HasOutcome, SomeOutcome, NamedKept}
-use Rattle.judging.proofs.Accepting.{sheet-weighed}
 
 -- a refusal lists nothing, and leaves the room as it was
 pub kept-refused : (o : OutcomeReply) (v : Verdict) (room : List ℕ) (r : Named) → o ≡ named (refused v) → r ≡ outcomeShown (named (refused v)) → NamedKept o room r room

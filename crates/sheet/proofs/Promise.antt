@@ -30,6 +30,7 @@ in-another w v t s l h =
             read = record { sizes = record { enough = l; short = f .read .sizes .short }; spells = f .read .spells };
             free = f .free;
             apart = f .apart;
+            none-twice = f .none-twice;
             elusive = f .elusive;
             few = f .few;
           };

@@ -10,10 +10,10 @@ use Rattle.fair.proofs.branch_twice.Statement.{statement}
 use Rattle.fair.proofs.branch_twice.Tie as tie
 
 abbrev Inv-loop : tie.InvT-loop
-Inv-loop table nodes i₀ i = (i ≤ nodes) × ((b : Board) → Searching firstTwice twiceFault b table i nodes)
+Inv-loop table end node₀ node = (node ≤ end) × ((b : Board) → Searching firstTwice twiceFault b table node end)
 
 abbrev μ-loop : tie.MeasureT-loop
-μ-loop table nodes i₀ i = nodes - i
+μ-loop table end node₀ node = end - node
 
 end-at-requires : tie.Need-end-at-requires Inv-loop μ-loop
 end-at-requires c κs = sheet-stands (c .before .pre .1 .held) .here .room
@@ -31,8 +31,8 @@ returns c = λ b s h.
     search-found (l .inv .1 b) (omega arith) 0 (twice-there (c .before .has-twice .ensures b) (c .if1 .taken)) s h
     (omega (arith, end, sheet-end h, node-end (sheet-stands h), h .long))
 
-add-i : tie.Need-add-i Inv-loop μ-loop
-add-i c = omega arith
+add-node : tie.Need-add-node Inv-loop μ-loop
+add-node c = omega arith
 
 loop-less : tie.Need-loop-less Inv-loop μ-loop
 loop-less c = omega arith
@@ -55,7 +55,7 @@ branch-twice-spec =
     loop-holds
     has-twice-requires
     returns
-    add-i
+    add-node
     loop-less
     loop-again
     returns-2)
