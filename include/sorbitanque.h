@@ -52,7 +52,9 @@ enum sorbitanque_verdict {
   /* 19: A set-up line names a cell that one before it named; the line is its own and the cell that cell. */
   SORBITANQUE_SET_UP_TWICE = 19,
   /* 20: A move is on a set-up stone; the line is the first such move's and the cell its own. */
-  SORBITANQUE_ON_SET_UP = 20
+  SORBITANQUE_ON_SET_UP = 20,
+  /* 24: A wait has two moves whose lines, with all lines under them, are the same; the line is the first such wait's, and there is no cell. */
+  SORBITANQUE_SAME_BRANCH = 24
 };
 
 enum {

@@ -82,11 +82,10 @@ module _ {test : List ℕ → List (List ℕ) → Bool} {ask : List (List ℕ) �
     next-answer : (b : Bool) → r ≡ b → (ms : MovesFrom t from end) → (rest : MovesFrom t next end) × (ask (branches (ms .moves)) ≡ (b || ask (branches (rest .moves))))
     next-answer b e ms =
         let l = w ms in
-        let x = ahead (l .left) p n in
-        (
+        let x = ahead (l .left) p n in (
           x .rest,
           l .same-answer ∙ ap ask (x .are) ∙ law .of-more (branchIn t j) (branches (x .rest .moves))
-          ∙ ap (λ (y : Bool). y || ask (branches (x .rest .moves))) (sym (h (x .rest)) ∙ e),
+              ∙ ap (λ (y : Bool). y || ask (branches (x .rest .moves))) (sym (h (x .rest)) ∙ e),
         )
 
     pub asking-found : r ≡ true → (ms : MovesFrom t from end) → true ≡ ask (branches (ms .moves))

@@ -12,9 +12,9 @@ use lib.ListN.{length}
 use Rattle.rules.specs.Sizes.{mostNodes}
 use Rattle.rules.specs.declared.Board.{Board}
 use Rattle.rules.specs.Board.{isCell, cells, smallest}
-use Rattle.rules.specs.Words.{if_then_else_, among, firstSome, twice}
+use Rattle.rules.specs.Words.{among, firstSome, twice}
 use Rattle.rules.specs.Tree.{Wait, Move, Sheet, setUpCells, everyMove, everyWait}
-use Rattle.rules.specs.Fair.{Fault, onSetUp, notApart, notElusive, branches, faultAt, firstFault, twiceAt, firstOnSetUp, firstNotApart, firstTwice, firstNotElusive}
+use Rattle.rules.specs.Fair.{Fault, onSetUp, notApart, notElusive, faultAt, firstFault, twiceAt, firstOnSetUp, firstNotApart, firstTwice, firstNotElusive}
 use Rattle.rules.proofs.Tests.{snd}
 use Rattle.cells.specs.Cells.{Fits}
 use Rattle.cells.proofs.Smallest.{smallest-held}

@@ -16,7 +16,6 @@ use Rattle.rules.proofs.Given.{fault-joined}
 use Rattle.rules.proofs.WellRead.{nodes-of-waits}
 use Rattle.cells.specs.Cells.{Holds}
 use Rattle.nodes.specs.Table.{endIn}
-use Rattle.nodes.specs.Nodes.{aMove, nodesOfWaits}
 use Rattle.nodes.specs.Sheets.{HoldsSheet}
 use Rattle.nodes.proofs.Trees.{waits-size}
 use Rattle.nodes.proofs.Sheets.{sheet-cells, sheet-weighed, sheet-end}

@@ -1,10 +1,10 @@
 -- What the first of a list gives that gives anything: where it stands, and that nothing is given before it.
-use mathlib.Core.Path.{_≡_, refl, sym, ap, subst, _∙_}
+use mathlib.Core.Path.{_≡_, refl, sym, ap, _∙_}
 use mathlib.Core.List.{List, [], _∷_, _++_}
 use mathlib.Core.Option.{Option, none, some}
 use Rattle.rules.specs.Words.{_∈_, at-head, in-tail, firstSome}
 use Rattle.rules.proofs.Lists.{all-cons, nothing-in}
-use Rattle.rules.proofs.Steps.{none≢some, some-inj}
+use Rattle.rules.proofs.Steps.{none≢some}
 
 module _ {A B : Type 0} (f : A → Option B) where
   abbrev Nothing : A → Type 0

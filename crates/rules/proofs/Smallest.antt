@@ -8,13 +8,13 @@ use mathlib.Core.List.{List, [], _∷_, _++_}
 use mathlib.Core.Option.{Option, none, some}
 use lib.Dec.{T, eqb, eqb-refl, eqb→eq, leb, leb→le}
 use native.Mathlib.Omega.{arith}
-use Rattle.rules.specs.Words.{if_then_else_, _∈_, at-head, in-tail, among, keep, upTo, firstOrNone}
+use Rattle.rules.specs.Words.{if_then_else_, _∈_, among, keep, upTo, firstOrNone}
 use Rattle.rules.specs.Board.{cells, isCell, listed, smallest}
 use Rattle.rules.specs.Fair.{Fault, faultAt, firstFault}
 use Rattle.rules.specs.Plain.{IsFirst}
 use Rattle.rules.specs.declared.Board.{Board}
 use Rattle.rules.proofs.Tests.{fst, left, cases}
-use Rattle.rules.proofs.Lists.{in-append, keep-append, keep-in, up-to-in, all-cons, nothing-in}
+use Rattle.rules.proofs.Lists.{in-append, keep-append, keep-in, up-to-in}
 use Rattle.rules.proofs.Joining.{listed-in, in-listed}
 use Rattle.rules.proofs.Steps.{none≢some, some-inj}
 use Rattle.rules.proofs.First.{none-each, each-none, first-of, of-first}

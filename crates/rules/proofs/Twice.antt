@@ -2,14 +2,14 @@
 -- exactly if their trees are, but for the numbers of the lines.
 use mathlib.Core.Path.{_≡_, refl, sym, ap, ap₂, subst, subst⁻¹, _∙_}
 use mathlib.Core.Logic.{inl, inr, _↔_}
-use Prim.Native.Nat.{ℕ, zero, suc}
+use Prim.Native.Nat.{ℕ, suc}
 use native.Mathlib.Omega.{arith}
-use mathlib.Core.Bool.{Bool, true, false, _||_}
-use mathlib.Core.List.{List, [], _∷_, _++_, append-assoc, append-nil}
+use mathlib.Core.Bool.{Bool, true, false}
+use mathlib.Core.List.{List, [], _∷_, _++_, append-assoc}
 use mathlib.Core.Option.{none, some}
 use lib.Dec.{T, eqb, eqb-refl, eqb→eq}
 use lib.ListN.{length}
-use Rattle.rules.specs.Words.{if_then_else_, _∈_, any, firstSome, same, twice}
+use Rattle.rules.specs.Words.{any, same, twice}
 use Rattle.rules.specs.Tree.{Waits, noWaits, wait, Moves, noMoves, move, Wait, Sheet, everyWait}
 use Rattle.rules.specs.Written.{howManyWaits, howManyMoves}
 use Rattle.rules.specs.Fair.{Fault, linesUnderMove, linesUnderWait, branch, branches, twiceAt, firstTwice}

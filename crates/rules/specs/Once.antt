@@ -1,5 +1,4 @@
 -- Document 02, C-20: which sheets get the reply that they got before a branch that stands twice was refused.
-use Prim.Native.Nat.{ℕ}
 use lib.Dec.{ltb}
 use Rattle.rules.specs.Sizes.{mostOutcomes}
 use Rattle.rules.specs.Text.{Bytes}

@@ -2,7 +2,6 @@
 use Prim.Native.Nat.{_+_, _-_}
 use native.Mathlib.Omega.{arith}
 use Rattle.rules.specs.Words.{twice}
-use Rattle.fair.specs.Twice.{MovesFrom}
 use Rattle.fair.proofs.Rows.{span-room}
 use Rattle.fair.proofs.Branches.{move-ahead, moves-ahead, asks-twice, Asking, asking-starts, asking-left, asking-found, asking-again, asking-ends, fork-moves}
 use Rattle.fair.proofs.twice_at.Statement.{statement}
