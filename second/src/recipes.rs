@@ -117,7 +117,7 @@ pub const SET_UP_DAMAGED: [(usize, Recipe); 15] = [
 ];
 
 /// Sheets with the same branch twice under a wait, some of them refused for something else before that.
-pub const TWINS: [(usize, Recipe); 13] = [
+pub const TWINS: [(usize, Recipe); 14] = [
     (6, |maker| spoiled(maker, doubled::once)),
     (2, |maker| spoiled(maker, doubled::twice)),
     (4, |maker| spoiled(maker, doubled::nested)),
@@ -131,6 +131,7 @@ pub const TWINS: [(usize, Recipe); 13] = [
     (1, |maker| doubled::all_cells_and_one(&mut maker.rng).text()),
     (1, |maker| doubled::widest(&mut maker.rng).text()),
     (2, |maker| doubled::full(&mut maker.rng).text()),
+    (2, twins_damaged),
 ];
 
 /// Sheets with branches under a wait that are nearly the same.
@@ -323,4 +324,10 @@ fn twins_and_unfair(maker: &mut Maker) -> Vec<u8> {
 fn twins_unjoined(maker: &mut Maker) -> Vec<u8> {
     let plan = if maker.rng.chance(50) { maker.long_plan() } else { maker.free_plan() };
     twins_of(plan, maker)
+}
+
+/// Makes an accepted plan, repeats a branch of it and damages its text.
+fn twins_damaged(maker: &mut Maker) -> Vec<u8> {
+    let text = spoiled(maker, doubled::once);
+    damage::line(&text, &mut maker.rng)
 }

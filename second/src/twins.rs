@@ -35,22 +35,21 @@ fn compared(step: &Move) -> Vec<Line> {
     lines
 }
 
-/// Gives the places of the moves that the move of a place is compared with: all after it.
-fn partners(place: usize, count: usize) -> std::ops::Range<usize> {
-    let most = if fault::on(Fault::TwinsNextOnly) { count.min(place + 2) } else { count };
-    let none = fault::on(Fault::TwinsOfFirstOnly) && place > 0;
-    place + 1..if none { place + 1 } else { most }
+/// Says whether two branches, by their places under a wait, are compared: any two are.
+fn looked_at(one: usize, other: usize, branch: &[Line]) -> bool {
+    let next_only = fault::on(Fault::TwinsNextOnly) && other > one + 1;
+    let of_first_only = fault::on(Fault::TwinsOfFirstOnly) && one > 0;
+    let of_singles_only = fault::on(Fault::TwinsOfSinglesOnly) && branch.len() > 1;
+    !(next_only || of_first_only || of_singles_only)
 }
 
 /// Finds two moves of a wait whose branches are the same, and gives the later one.
 fn twin(wait: &Wait) -> Option<&Move> {
     let branches: Vec<Vec<Line>> = wait.moves.iter().map(compared).collect();
-    for (place, branch) in branches.iter().enumerate() {
-        let same = |other: &usize| branches[*other] == *branch;
-        if fault::on(Fault::TwinsOfSinglesOnly) && branch.len() > 1 {
-            continue;
-        }
-        if let Some(other) = partners(place, branches.len()).find(same) {
+    for (one, branch) in branches.iter().enumerate() {
+        let later = one + 1..branches.len();
+        let same = |&other: &usize| branches[other] == *branch && looked_at(one, other, branch);
+        if let Some(other) = later.into_iter().find(same) {
             return Some(&wait.moves[other]);
         }
     }
