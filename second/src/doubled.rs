@@ -75,12 +75,9 @@ pub fn other_cell(plan: &mut Plan, rng: &mut Rng) {
 /// Adds to a wait two of its branches that name the same cells line by line and differ in the counts of two waits.
 pub fn other_counts(plan: &mut Plan, rng: &mut Rng) {
     let free = plan.unused(rng);
-    let [first, rest @ ..] = &free[..] else {
-        return;
-    };
-    if let (&[a, b, c, d, ..], Some(wait)) = (rest, plan.root.any_wait(rng)) {
-        let low = vec![step(*first, vec![pair(a, b)]), leaf(c), leaf(d)];
-        let high = vec![step(*first, vec![singles(&[a, b, c])]), leaf(d)];
+    if let (&[a, b, c, d, e, ..], Some(wait)) = (&free[..], plan.root.any_wait(rng)) {
+        let low = vec![step(a, vec![pair(b, c)]), leaf(d), leaf(e)];
+        let high = vec![step(a, vec![singles(&[b, c, d])]), leaf(e)];
         let branch = rng.pick(wait).clone();
         for idle in [low, high] {
             let mut next = branch.clone();
