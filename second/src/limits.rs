@@ -27,7 +27,7 @@ pub fn long_text(base: &[u8], rng: &mut Rng) -> Vec<u8> {
 /// Makes a finished tree of exactly so many nodes on a small board, with no branch twice and some cells left.
 pub fn many_nodes(nodes: usize, rng: &mut Rng) -> Plan {
     let rows = rng.between(1, 2) as i32;
-    let columns = rng.between(12, LARGEST) as i32;
+    let columns = rng.between(13, LARGEST) as i32;
     let mut plan = Plan::new(columns, rows, leaf((2, 1)));
     let first = if rows == 1 { [(1, 1), (3, 1)] } else { [(1, 2), (2, 2)] };
     let mut spots: Vec<Spot> = plan.unused(rng);

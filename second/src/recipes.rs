@@ -8,6 +8,7 @@ use crate::limits;
 use crate::maker::Maker;
 use crate::plan::Plan;
 use crate::positions;
+use crate::requests::BYTES;
 use crate::rng::Rng;
 use crate::templates;
 use crate::unfair;
@@ -281,11 +282,13 @@ fn position_damaged(maker: &mut Maker, damage: fn(&[u8], &mut Rng) -> Vec<u8>) -
     damage(&text, &mut maker.rng)
 }
 
-/// Makes a sheet of one of these kinds and sets stones up on any cells before its tree.
+/// Makes a sheet of one of these kinds and sets stones up on any cells before its tree, cut to what a request can send.
 fn beset(maker: &mut Maker, kinds: &[(usize, Recipe)]) -> Vec<u8> {
     let recipe = maker.rng.pick(kinds).1;
     let text = recipe(maker);
-    damage::set_up(&text, &mut maker.rng)
+    let mut text = damage::set_up(&text, &mut maker.rng);
+    text.truncate(BYTES as usize);
+    text
 }
 
 /// Makes a sheet with set-up stones and about as many nodes as are allowed.

@@ -11,8 +11,9 @@ use crate::maker::{accepted, Maker};
 use crate::outcomes::{count_of_move, outcomes_of_move};
 use crate::plan::{leaf, pair, step, Plan, NONE};
 use crate::positions;
+use crate::recipes::{LIMITS, SET_UP_DAMAGED, TWINS};
 use crate::replies;
-use crate::requests::{next, write, Ask, Next};
+use crate::requests::{next, write, Ask, Next, BYTES};
 use crate::rng::Rng;
 use crate::set_up::Side;
 use crate::sheet;
@@ -151,7 +152,7 @@ fn nearly_doubled_plans() {
 #[test]
 fn full_trees() {
     let mut maker = Maker::new(14);
-    for nodes in 2_040..=2_048 {
+    for nodes in (2_040..=2_048).cycle().take(90) {
         let plan = limits::many_nodes(nodes, &mut maker.rng);
         assert_eq!((plan.root.nodes(), plan.root.doubled()), (nodes, false));
         assert!(accepted(&plan));
@@ -186,6 +187,17 @@ fn counts_and_lists() {
         assert_eq!(all.len() as u128, count_of_move(&sheet.root));
         let some = maker.rng.below(all.len()) + 1;
         assert_eq!(outcomes_of_move(&sheet.root, some), all[..some]);
+    }
+}
+
+/// No sheet is longer than a request can send, also where set-up lines come before a long text.
+#[test]
+fn sheets_can_be_sent() {
+    let mut maker = Maker::new(15);
+    for (_, recipe) in SET_UP_DAMAGED.iter().chain(&LIMITS).chain(&TWINS) {
+        for _ in 0..200 {
+            assert!(recipe(&mut maker).len() <= BYTES as usize);
+        }
     }
 }
 

@@ -4,7 +4,7 @@ use crate::plan::{leaf, Spot, Step};
 use crate::rng::Rng;
 
 /// How many idle spots are enough for some thousand nodes of unlike branches.
-pub const IDLE: usize = 5;
+pub const IDLE: usize = 6;
 
 /// Gives a wait of single moves on these spots.
 pub fn singles(spots: &[Spot]) -> Vec<Step> {
@@ -23,8 +23,8 @@ fn idle_waits(spots: &[Spot], rng: &mut Rng) -> Vec<Vec<Step>> {
     waits
 }
 
-/// Adds unlike branches to a wait, each one of its moves with idle waits under it, while their sizes add up to at most so many;
-/// what is left is 0 or no less than the least size.
+/// Adds unlike branches to a wait, each one of its moves with idle waits under it, until their sizes, of which the least is given, add up to just so many.
+/// Where a branch does not fit, now and then the last one is taken back, since what is left may have no branch of its size.
 fn add_unlike(
     wait: &mut Vec<Step>,
     mut left: usize,
@@ -41,6 +41,8 @@ fn add_unlike(
         if (size == left || size + least <= left) && !wait.contains(&next) {
             wait.push(next);
             left -= size;
+        } else if wait.len() > moves.len() && rng.chance(5) {
+            left += wait.pop().map_or(0, |last| size_of(&last));
         }
     }
 }
