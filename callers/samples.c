@@ -121,6 +121,7 @@ static void plays(void) {
   play("p8", LIST(2, 5, 1), 3, 2, LIST(14, 0, 0, 0, 0, 0, 0), NULL);
   play("p2", LIST(3), 1, 0, LIST(13, 0, 0, 1, 0, 0, 0), NULL);
   play("p4", LIST(3), 1, 1, LIST(10, 2, 2, 0, 0, 0, 0), NULL);
+  play("branch_twice", LIST(1), 1, 0, LIST(24, 32, 0, 0, 0, 0, 0), NULL);
 }
 
 static void outcomes(void) {
@@ -138,6 +139,7 @@ static void outcomes(void) {
   outcome("p2", 1, 2, LIST(0, 0, 0, 0, 2, 0, 0), LIST(1, 4));
   outcome("p7", 0, 0, LIST(0, 0, 0, 0, 0, 0, 0), NULL);
   outcome("p3", 0, ROOM, LIST(11, 3, 3, 0, 0, 0, 0), NULL);
+  outcome("branch_twice", 0, 0, LIST(24, 32, 0, 0, 0, 0, 0), NULL);
   outcome("seventeen_waits", 0, ROOM, LIST(12, 0, 0, 0, 0, 0, 0), NULL);
 }
 

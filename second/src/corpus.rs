@@ -6,7 +6,7 @@ use crate::maker::Maker;
 use crate::outcomes::count_of_move;
 use crate::recipes::{schedule, Recipe};
 use crate::recipes::{DAMAGED, DEAR, GOOD, LIMITS, UNFAIR, UNJOINED};
-use crate::recipes::{SET_UP, SET_UP_DAMAGED, SET_UP_UNJOINED};
+use crate::recipes::{NEARLY, SET_UP, SET_UP_DAMAGED, SET_UP_UNJOINED, TWINS};
 use crate::requests::{Ask, Request};
 use crate::rng::Rng;
 use crate::set_up::Side;
@@ -25,7 +25,8 @@ pub fn requests(sizes: &Sizes) -> Vec<Request> {
     let mut maker = Maker::new(sizes.seed);
     let plain: [&[(usize, Recipe)]; 6] = [&GOOD, &DEAR, &UNJOINED, &UNFAIR, &DAMAGED, &LIMITS];
     let set_up: [&[(usize, Recipe)]; 3] = [&SET_UP, &SET_UP_UNJOINED, &SET_UP_DAMAGED];
-    let all = schedule(&[&plain[..], &set_up].concat(), &mut maker.rng);
+    let twins: [&[(usize, Recipe)]; 2] = [&TWINS, &NEARLY];
+    let all = schedule(&[&plain[..], &set_up, &twins].concat(), &mut maker.rng);
     let good = schedule(&[&GOOD, &SET_UP], &mut maker.rng);
     let fair = schedule(&[&GOOD, &UNJOINED, &UNJOINED, &SET_UP, &SET_UP_UNJOINED], &mut maker.rng);
     let mut requests = Vec::new();

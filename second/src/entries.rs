@@ -6,6 +6,7 @@ use crate::fault::{self, Fault};
 use crate::outcomes::{count_of_move, first_unjoined, outcomes_of_move, too_many};
 use crate::set_up::{off_stones, Side};
 use crate::sheet::{self, count_moves, count_waits, Sheet};
+use crate::twins::no_twins;
 use crate::verdict::Verdict;
 use std::collections::BTreeSet;
 
@@ -49,14 +50,17 @@ fn borrow(text: &[u8], work: &mut [u32]) -> Result<(), Verdict> {
     Ok(())
 }
 
-/// Decides whether a tree is fair, 10 over the whole tree and then 11.
+/// Decides whether a tree is fair and has no branch twice: 10, 24 and 11, each over the whole tree.
 fn fair(sheet: &Sheet) -> Result<(), Verdict> {
     if fault::on(Fault::UnfairPerNode) {
         return match first_unfair(&sheet.root) {
             Some((true, (line, cell))) => Err(Verdict::NotApart { line, cell }),
             Some((false, (line, cell))) => Err(Verdict::NotElusive { line, cell }),
-            None => Ok(()),
+            None => no_twins(&sheet.root),
         };
+    }
+    if fault::on(Fault::TwinsBeforeApart) {
+        no_twins(&sheet.root)?;
     }
     if let Some((line, cell)) = first_not_apart(&sheet.root) {
         return Err(Verdict::NotApart { line, cell });
@@ -64,16 +68,25 @@ fn fair(sheet: &Sheet) -> Result<(), Verdict> {
     if fault::on(Fault::OnStoneAfterApart) {
         off_stones(&sheet.root, &sheet.set_up)?;
     }
+    if !fault::on(Fault::TwinsAfterElusive) {
+        no_twins(&sheet.root)?;
+    }
     if let Some((line, cell)) = first_not_elusive(&sheet.root) {
         return Err(Verdict::NotElusive { line, cell });
+    }
+    if fault::on(Fault::TwinsAfterElusive) {
+        no_twins(&sheet.root)?;
     }
     Ok(())
 }
 
-/// Reads a sheet and counts its outcomes, deciding 1 to 9 and 19, then 20, then 10 to 12.
+/// Reads a sheet and counts its outcomes, deciding 1 to 9 and 19, then 20, 10, 24, 11, 12.
 fn counted(text: &[u8], work: &mut [u32]) -> Result<(Sheet, u128), Verdict> {
     borrow(text, work)?;
     let sheet = sheet::read(text)?;
+    if fault::on(Fault::TwinsBeforeStones) {
+        no_twins(&sheet.root)?;
+    }
     if !fault::on(Fault::OnStoneAfterApart) {
         off_stones(&sheet.root, &sheet.set_up)?;
     }

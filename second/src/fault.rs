@@ -77,10 +77,25 @@ pub enum Fault {
     OwnNotListed,
     OwnListedLast,
     RoomForTree,
+    TwinsNextOnly,
+    TwinsOfFirstOnly,
+    TwinsOfSinglesOnly,
+    TwinsFirstLines,
+    TwinsButLastLine,
+    TwinsWithoutCounts,
+    TwinsInAnyOrder,
+    TwinsUnderRootOnly,
+    TwinsInnerFirst,
+    TwinsLastWait,
+    TwinsMoveLine,
+    TwinsCell,
+    TwinsAfterElusive,
+    TwinsBeforeApart,
+    TwinsBeforeStones,
 }
 
 /// Every fault with the name it is asked for by.
-pub const ALL: [(Fault, &str); 72] = [
+pub const ALL: [(Fault, &str); 87] = [
     (Fault::NextToNext, "next-to-next"),
     (Fault::OwnBelow, "own-cell-below-untested"),
     (Fault::FirstCellOnly, "elusive-first-cell-only"),
@@ -153,6 +168,21 @@ pub const ALL: [(Fault, &str); 72] = [
     (Fault::OwnNotListed, "own-set-up-stones-not-listed"),
     (Fault::OwnListedLast, "own-set-up-stones-listed-last"),
     (Fault::RoomForTree, "room-without-own-set-up-stones"),
+    (Fault::TwinsNextOnly, "24-next-moves-only"),
+    (Fault::TwinsOfFirstOnly, "24-of-the-first-move-only"),
+    (Fault::TwinsOfSinglesOnly, "24-of-single-lines-only"),
+    (Fault::TwinsFirstLines, "24-first-lines-only"),
+    (Fault::TwinsButLastLine, "24-last-line-uncompared"),
+    (Fault::TwinsWithoutCounts, "24-counts-uncompared"),
+    (Fault::TwinsInAnyOrder, "24-lines-in-any-order"),
+    (Fault::TwinsUnderRootOnly, "24-waits-of-the-root-only"),
+    (Fault::TwinsInnerFirst, "24-inner-wait-first"),
+    (Fault::TwinsLastWait, "24-names-the-last-wait"),
+    (Fault::TwinsMoveLine, "24-names-the-move"),
+    (Fault::TwinsCell, "24-names-a-cell"),
+    (Fault::TwinsAfterElusive, "24-after-11"),
+    (Fault::TwinsBeforeApart, "24-before-10"),
+    (Fault::TwinsBeforeStones, "24-before-20"),
 ];
 
 thread_local! {

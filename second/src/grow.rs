@@ -1,23 +1,30 @@
 //! Changes that keep a sheet fair and joined.
 
-use crate::plan::{leaf, Plan, Spot, Step};
+use crate::plan::{leaf, pair, Plan, Spot, Step};
 use crate::rng::Rng;
 use crate::templates::{free_move, free_wait};
+use crate::unlike::{add_nodes, IDLE};
 
-/// Tries a change and takes it only while the sheet stays inside its limits.
+/// Tries a change and takes it only while the sheet stays inside its limits and has no branch twice.
 fn attempt(plan: &mut Plan, most: u128, change: impl FnOnce(&mut Plan)) {
     let mut changed = plan.clone();
     change(&mut changed);
     let root = &changed.root;
-    if root.outcomes() <= most && root.nodes() <= 2_048 && root.depth() <= 127 {
+    let inside = root.outcomes() <= most && root.nodes() <= 2_048 && root.depth() <= 127;
+    if inside && !root.doubled() {
         *plan = changed;
     }
 }
 
-/// Repeats a move of a wait in the same wait.
+/// Repeats a move of a wait in the same wait with something else: an idle wait under it, or the order of its lines.
 fn repeat(plan: &mut Plan, rng: &mut Rng) {
+    let free = plan.unused(rng);
     if let Some(wait) = plan.root.any_wait(rng) {
-        let again = rng.pick(wait).clone();
+        let mut again = rng.pick(wait).clone();
+        again.shuffle(rng);
+        if free.len() >= 2 && rng.chance(70) {
+            again.waits.push(pair(free[0], free[1]));
+        }
         let place = rng.below(wait.len() + 1);
         wait.insert(place, again);
     }
@@ -111,19 +118,17 @@ pub fn double(plan: &mut Plan, most: u128, rng: &mut Rng) {
     }
 }
 
-/// Repeats single moves of one wait until the tree has exactly so many nodes.
+/// Adds unlike branches to one wait until the tree has exactly so many nodes, where single moves and unused cells allow it.
 pub fn pad(plan: &mut Plan, nodes: usize, rng: &mut Rng) {
     let missing = nodes.saturating_sub(plan.root.nodes());
+    let mut idle = plan.unused(rng);
+    idle.truncate(2 * IDLE);
     let Some(wait) = plan.root.any_wait(rng) else {
         return;
     };
-    let singles: Vec<Step> = wait.iter().filter(|next| next.waits.is_empty()).cloned().collect();
-    if singles.is_empty() {
-        return;
-    }
-    for _ in 0..missing {
-        let again = rng.pick(&singles).clone();
-        let place = rng.below(wait.len() + 1);
-        wait.insert(place, again);
+    let single = wait.iter().any(|next| next.waits.is_empty());
+    if single && idle.len() >= IDLE && missing >= 4 {
+        add_nodes(wait, missing, &idle, rng);
+        rng.shuffle(wait);
     }
 }

@@ -3,14 +3,10 @@
 use crate::board::LARGEST;
 use crate::plan::{leaf, name, pair, step, Plan, Spot, Step, NONE};
 use crate::rng::Rng;
+use crate::unlike::{add_nodes, add_outcomes, singles, IDLE};
 
 /// The most columns and rows of a board, and those of one that is smaller.
 const SIDES: [i32; 2] = [13, LARGEST as i32];
-
-/// Gives a wait of so many single moves that takes turns over these spots.
-fn wide(count: usize, spots: &[Spot]) -> Vec<Step> {
-    (0..count).map(|place| leaf(spots[place % spots.len()])).collect()
-}
 
 /// Pads a text to a length around the limit with bytes of one kind.
 pub fn long_text(base: &[u8], rng: &mut Rng) -> Vec<u8> {
@@ -28,22 +24,24 @@ pub fn long_text(base: &[u8], rng: &mut Rng) -> Vec<u8> {
     text
 }
 
-/// Makes a finished tree of exactly so many nodes on a small board.
+/// Makes a finished tree of exactly so many nodes on a small board, with no branch twice and some cells left.
 pub fn many_nodes(nodes: usize, rng: &mut Rng) -> Plan {
     let rows = rng.between(1, 2) as i32;
-    let columns = rng.between(5, LARGEST) as i32;
+    let columns = rng.between(13, LARGEST) as i32;
     let mut plan = Plan::new(columns, rows, leaf((2, 1)));
+    let first = if rows == 1 { [(1, 1), (3, 1)] } else { [(1, 2), (2, 2)] };
     let mut spots: Vec<Spot> = plan.unused(rng);
-    spots.retain(|&spot| spot != (1, 2) && spot != (2, 2));
-    let first = if rows == 1 { vec![(1, 1), (3, 1)] } else { vec![(1, 2), (2, 2)] };
     spots.retain(|spot| !first.contains(spot));
-    if rng.chance(50) || spots.len() < 2 {
-        plan.root.waits = vec![wide(nodes - 2, &first)];
+    spots.truncate(2 + IDLE);
+    let mut waits = vec![singles(&first)];
+    if rng.chance(50) {
+        add_nodes(&mut waits[0], nodes - 4, &spots, rng);
     } else {
-        let most = *rng.pick(&[5, 5, 5, 31]);
-        let some = rng.between(2, most);
-        plan.root.waits = vec![wide(some, &first), wide(nodes - 3 - some, &spots[..2])];
+        let (second, idle) = spots.split_at(2);
+        waits.push(singles(second));
+        add_nodes(&mut waits[1], nodes - 7, idle, rng);
     }
+    plan.root.waits = waits;
     plan
 }
 
@@ -163,16 +161,39 @@ pub fn counts(rng: &mut Rng) -> Vec<u8> {
     text
 }
 
+/// Gives how many spots a wait of so many outcomes takes: of two or three single moves, or of two and some idle ones.
+fn spots_for(count: usize) -> usize {
+    match count {
+        2 | 3 => count,
+        4..=16 => 5,
+        _ => 8,
+    }
+}
+
+/// Makes a wait of so many outcomes over its spots, with no branch twice.
+fn counting(count: usize, spots: &[Spot], rng: &mut Rng) -> Vec<Step> {
+    let (moves, idle) = spots.split_at(count.min(if count == 3 { 3 } else { 2 }));
+    let mut wait = singles(moves);
+    add_outcomes(&mut wait, count - moves.len(), idle, rng);
+    wait
+}
+
 /// Makes a move whose outcomes are counted by the product of these factors.
-fn product(own: Spot, factors: &[usize], spots: &[Spot]) -> Step {
-    let waits = factors.iter().zip(spots.chunks_exact(2));
-    step(own, waits.map(|(&factor, two)| wide(factor, two)).collect())
+fn product(own: Spot, factors: &[usize], spots: &[Spot], rng: &mut Rng) -> Step {
+    let mut rest = spots;
+    let mut waits = Vec::new();
+    for &factor in factors {
+        let (taken, others) = rest.split_at(spots_for(factor));
+        waits.push(counting(factor, taken, rng));
+        rest = others;
+    }
+    step(own, waits)
 }
 
 /// Makes a plan on a wide board of one row, or more if needed, counting just these factors.
 fn counted(factors: &[usize], one_more: bool, rng: &mut Rng) -> Plan {
-    let needed = 2 * factors.len() as i32 + 4;
-    let columns = *rng.pick(&SIDES);
+    let needed = factors.iter().map(|&factor| spots_for(factor)).sum::<usize>() as i32 + 3;
+    let columns = if needed > 2 * SIDES[0] { SIDES[1] } else { *rng.pick(&SIDES) };
     let rows = (needed + columns - 1) / columns;
     let mut plan = Plan::new(columns, rows, leaf(NONE));
     let mut spots = plan.unused(rng);
@@ -183,9 +204,9 @@ fn counted(factors: &[usize], one_more: bool, rng: &mut Rng) -> Plan {
         spots.splice(0..0, first);
     }
     let own = if rows == 1 && rng.chance(40) { NONE } else { spots[0] };
-    plan.root = product(own, factors, &spots[1..]);
+    plan.root = product(own, factors, &spots[1..], rng);
     if one_more {
-        let many = product(spots[spots.len() - 1], factors, &spots[1..]);
+        let many = product(spots[spots.len() - 1], factors, &spots[1..], rng);
         plan.root = step(spots[0], vec![vec![many, leaf(spots[spots.len() - 2])]]);
     }
     plan
@@ -201,7 +222,7 @@ pub fn full_outcomes(rng: &mut Rng) -> Plan {
 
 /// Makes a plan with one outcome fewer than is allowed, which all join.
 pub fn one_fewer(rng: &mut Rng) -> Plan {
-    let factors: [&[usize]; 3] = [&[255, 257], &[3, 5, 17, 257], &[15, 17, 257]];
+    let factors: [&[usize]; 3] = [&[255, 257], &[5, 3, 17, 257], &[15, 17, 257]];
     let chosen = *rng.pick(&factors);
     counted(chosen, false, rng)
 }

@@ -4,6 +4,7 @@ mod answering;
 mod board;
 mod corpus;
 mod damage;
+mod doubled;
 mod entries;
 mod fair;
 mod fault;
@@ -28,7 +29,9 @@ mod templates;
 mod tests_made;
 #[cfg(test)]
 mod tests_paper;
+mod twins;
 mod unfair;
+mod unlike;
 mod verdict;
 
 use std::io::{self, BufWriter, Write};

@@ -43,6 +43,13 @@ pub fn pair(one: Spot, other: Spot) -> Vec<Step> {
     vec![leaf(one), leaf(other)]
 }
 
+/// Adds a move to a wait, if none there has the same branch.
+pub fn add_new(wait: &mut Vec<Step>, next: Step) {
+    if !wait.contains(&next) {
+        wait.push(next);
+    }
+}
+
 /// Gives the spots named in a wait.
 pub fn spots_of(wait: &[Step]) -> BTreeSet<Spot> {
     wait.iter().flat_map(Step::spots).collect()
@@ -132,6 +139,13 @@ impl Step {
             return None;
         }
         self.nth_wait(&mut rng.below(count))
+    }
+
+    /// Says whether some wait under this move has the same branch twice.
+    pub fn doubled(&self) -> bool {
+        let twice =
+            |wait: &Vec<Step>| (1..wait.len()).any(|place| wait[..place].contains(&wait[place]));
+        self.waits.iter().any(twice) || self.waits.iter().flatten().any(Step::doubled)
     }
 
     /// Puts the waits of each move and the moves of each wait in a random order.

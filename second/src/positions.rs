@@ -104,13 +104,19 @@ pub fn template(maker: &mut Maker) -> Plan {
     }
 }
 
+/// Makes a board on which own stones join already, and nothing to play.
+pub fn joined(columns: i32, rows: i32, rng: &mut Rng) -> Plan {
+    let mut plan = Plan::new(columns, rows, leaf(NONE));
+    let own = chain(columns, rows, rng).into_iter().map(|spot| (Side::Own, spot));
+    plan.stones.extend(own);
+    plan
+}
+
 /// Makes a sheet whose own stones join already, with any fair tree or none beside them.
 pub fn joined_already(maker: &mut Maker) -> Plan {
     let (columns, rows) = (maker.side(), maker.side());
     let rng = &mut maker.rng;
-    let mut plan = Plan::new(columns, rows, leaf(NONE));
-    let own = chain(columns, rows, rng).into_iter().map(|spot| (Side::Own, spot));
-    plan.stones.extend(own);
+    let mut plan = joined(columns, rows, rng);
     let mut spots = plan.unused(rng);
     spots.truncate(rng.below(12));
     if !spots.is_empty() {

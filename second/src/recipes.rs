@@ -1,11 +1,14 @@
 //! The kinds of sheets in a corpus and how often each is made.
 
+use crate::board::LARGEST;
 use crate::damage;
+use crate::doubled;
 use crate::grow;
 use crate::limits;
 use crate::maker::Maker;
 use crate::plan::Plan;
 use crate::positions;
+use crate::requests::BYTES;
 use crate::rng::Rng;
 use crate::templates;
 use crate::unfair;
@@ -24,7 +27,7 @@ pub const GOOD: [(usize, Recipe); 6] = [
 ];
 
 /// Accepted sheets that are dear to test: as many nodes or outcomes as are allowed.
-pub const DEAR: [(usize, Recipe); 2] = [(2, padded), (1, full)];
+pub const DEAR: [(usize, Recipe); 2] = [(2, padded), (2, full)];
 
 /// Fair sheets of which most have an outcome that does not join, or too many outcomes.
 pub const UNJOINED: [(usize, Recipe); 7] = [
@@ -114,6 +117,32 @@ pub const SET_UP_DAMAGED: [(usize, Recipe); 15] = [
     (2, full_and_set_up),
 ];
 
+/// Sheets with the same branch twice under a wait, some of them refused for something else before that.
+pub const TWINS: [(usize, Recipe); 14] = [
+    (6, |maker| spoiled(maker, doubled::once)),
+    (2, |maker| spoiled(maker, doubled::twice)),
+    (4, |maker| spoiled(maker, doubled::nested)),
+    (3, |maker| spoiled(maker, doubled::alone)),
+    (3, deep_twins),
+    (5, twins_and_unfair),
+    (2, twins_unjoined),
+    (1, |maker| twins_of(limits::over_outcomes(&mut maker.rng), maker)),
+    (2, |maker| twins_of(few_stones(maker), maker)),
+    (2, |maker| twins_of(positioned(maker, positions::cover), maker)),
+    (1, |maker| doubled::all_cells_and_one(&mut maker.rng).text()),
+    (1, |maker| doubled::widest(&mut maker.rng).text()),
+    (2, |maker| doubled::full(&mut maker.rng).text()),
+    (2, twins_damaged),
+];
+
+/// Sheets with branches under a wait that are nearly the same.
+pub const NEARLY: [(usize, Recipe); 4] = [
+    (5, |maker| spoiled(maker, doubled::other_cell)),
+    (3, |maker| spoiled(maker, doubled::other_counts)),
+    (3, |maker| spoiled(maker, doubled::other_order)),
+    (1, |maker| doubled::all_cells(&mut maker.rng).text()),
+];
+
 /// Lists all recipes, each as often as it weighs, in a random order.
 pub fn schedule(groups: &[&[(usize, Recipe)]], rng: &mut Rng) -> Vec<Recipe> {
     let mut all: Vec<Recipe> = Vec::new();
@@ -182,9 +211,9 @@ fn padded(maker: &mut Maker) -> Vec<u8> {
     if maker.rng.chance(50) {
         return limits::many_nodes(nodes, &mut maker.rng).text();
     }
-    let mut plan = maker.plan(8);
+    let mut plan = maker.base(8).widened(LARGEST as i32, 0);
     grow::pad(&mut plan, nodes, &mut maker.rng);
-    plan.text()
+    maker.placed(plan).text()
 }
 
 /// Makes by turns a sheet with as many outcomes as are allowed, one fewer and one more.
@@ -253,11 +282,13 @@ fn position_damaged(maker: &mut Maker, damage: fn(&[u8], &mut Rng) -> Vec<u8>) -
     damage(&text, &mut maker.rng)
 }
 
-/// Makes a sheet of one of these kinds and sets stones up on any cells before its tree.
+/// Makes a sheet of one of these kinds and sets stones up on any cells before its tree, cut to what a request can send.
 fn beset(maker: &mut Maker, kinds: &[(usize, Recipe)]) -> Vec<u8> {
     let recipe = maker.rng.pick(kinds).1;
     let text = recipe(maker);
-    damage::set_up(&text, &mut maker.rng)
+    let mut text = damage::set_up(&text, &mut maker.rng);
+    text.truncate(BYTES as usize);
+    text
 }
 
 /// Makes a sheet with set-up stones and about as many nodes as are allowed.
@@ -266,4 +297,40 @@ fn full_and_set_up(maker: &mut Maker) -> Vec<u8> {
     let mut plan = limits::many_nodes(rng.between(2_046, 2_049), rng);
     positions::scatter(&mut plan, rng.between(1, 3), rng);
     plan.text()
+}
+
+/// Repeats a branch of a plan, at one place or within another that is repeated.
+fn twins_of(mut plan: Plan, maker: &mut Maker) -> Vec<u8> {
+    let double = *maker.rng.pick(&[doubled::once, doubled::nested]);
+    double(&mut plan, &mut maker.rng);
+    plan.text()
+}
+
+/// Makes a deep plan and repeats a branch of it.
+fn deep_twins(maker: &mut Maker) -> Vec<u8> {
+    let plan = match maker.rng.below(3) {
+        0 => maker.slow_plan(300),
+        1 => maker.deep_plan(300),
+        _ => limits::deep(2 * maker.rng.between(3, 63) + 1, &mut maker.rng),
+    };
+    twins_of(plan, maker)
+}
+
+/// Makes an unfair plan and repeats a branch of it.
+fn twins_and_unfair(maker: &mut Maker) -> Vec<u8> {
+    let mut plan = maker.plan(300);
+    spoil(&mut plan, &mut maker.rng);
+    twins_of(plan, maker)
+}
+
+/// Makes a plan with an outcome that does not join, most often, and repeats a branch of it.
+fn twins_unjoined(maker: &mut Maker) -> Vec<u8> {
+    let plan = if maker.rng.chance(50) { maker.long_plan() } else { maker.free_plan() };
+    twins_of(plan, maker)
+}
+
+/// Makes an accepted plan, repeats a branch of it and damages its text.
+fn twins_damaged(maker: &mut Maker) -> Vec<u8> {
+    let text = spoiled(maker, doubled::once);
+    damage::line(&text, &mut maker.rng)
 }

@@ -7,7 +7,7 @@ const WORK: u64 = 9_000;
 /// The most room that can be lent.
 const ROOM: u64 = 1_000;
 /// The longest sheet that can be sent.
-const BYTES: u64 = 65_536;
+pub const BYTES: u64 = 65_536;
 /// The most cells a play can list.
 const CELLS: usize = 400;
 

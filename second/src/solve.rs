@@ -1,6 +1,6 @@
 //! Small boards solved by brute force into complete and/or trees.
 
-use crate::plan::{leaf, step, Plan, Spot, Step, NONE};
+use crate::plan::{add_new, leaf, step, Plan, Spot, Step, NONE};
 use crate::rng::Rng;
 use std::collections::HashMap;
 
@@ -103,7 +103,7 @@ impl Solver {
             let replies = self.empty(mine | blocked, making.rng);
             let winning = replies.into_iter().find(|&cell| self.holds(mine | 1 << cell, blocked));
             if let Some(cell) = winning {
-                wait.push(self.tree(mine, blocked, cell, making));
+                add_new(&mut wait, self.tree(mine, blocked, cell, making));
             }
         }
         wait

@@ -9,6 +9,9 @@ use crate::requests::{Ask, Request};
 const TOLD: usize = 3;
 /// The fewest times each verdict has to be met.
 const MET: usize = 20;
+/// One more than the largest number of a verdict, and the numbers that no verdict has.
+const NUMBERS: usize = 25;
+const NOT_GIVEN: [usize; 3] = [21, 22, 23];
 
 /// Answers all requests with a fault, or with none.
 fn answered(requests: &[Request], fault: Option<Fault>) -> Vec<String> {
@@ -35,7 +38,7 @@ pub fn tell(sizes: &Sizes) -> bool {
 
 /// Prints how often each verdict is met by judge, play and outcome and in all, and says whether often enough.
 pub fn histogram(sizes: &Sizes) -> bool {
-    let mut met = [[0usize; 4]; 21];
+    let mut met = [[0usize; 4]; NUMBERS];
     for request in requests(sizes) {
         let kind = match request.ask {
             Ask::Judge => 0,
@@ -47,8 +50,11 @@ pub fn histogram(sizes: &Sizes) -> bool {
         met[verdict][3] += 1;
     }
     println!("verdict\tjudge\tplay\toutcome\tall");
-    for (verdict, counts) in met.iter().enumerate() {
+    let mut often_enough = true;
+    for verdict in (0..NUMBERS).filter(|verdict| !NOT_GIVEN.contains(verdict)) {
+        let counts = met[verdict];
         println!("{verdict}\t{}\t{}\t{}\t{}", counts[0], counts[1], counts[2], counts[3]);
+        often_enough &= counts[3] >= MET;
     }
-    met.iter().all(|counts| counts[3] >= MET)
+    often_enough
 }

@@ -1,7 +1,7 @@
 //! Sheets of known kinds: bridges, edge templates, ladders, pairings and free trees.
 
 use crate::board::LARGEST;
-use crate::plan::{leaf, pair, step, Plan, Spot, Step, NONE};
+use crate::plan::{add_new, leaf, pair, step, Plan, Spot, Step, NONE};
 use crate::rng::Rng;
 
 /// Gives the waits that join a stone to the side so many rows away, at most two, up or down.
@@ -97,7 +97,7 @@ pub fn pairing(columns: i32, rows: i32, rng: &mut Rng) -> Plan {
     Plan::new(columns, rows, root)
 }
 
-/// Makes a straight chain of single cells down the board that joins only in its first outcomes.
+/// Makes a straight chain of single cells down a board of four columns or more that joins only in its first outcomes.
 pub fn chain(columns: i32, rows: i32, rng: &mut Rng) -> Plan {
     let mut spot = (rng.between(1, columns as usize) as i32, 1);
     let root = spot;
@@ -105,9 +105,13 @@ pub fn chain(columns: i32, rows: i32, rng: &mut Rng) -> Plan {
     for row in 2..=rows {
         let left = spot.0 > 1 && rng.chance(50);
         let good = (spot.0 - i32::from(left), row);
-        let mut wait = vec![leaf(good); if rng.chance(80) { 1 } else { rng.between(2, 3) }];
-        let other = (rng.between(1, columns as usize) as i32, row);
-        wait.push(leaf(if other == good { (good.0 % columns + 1, row) } else { other }));
+        let mut others: Vec<Spot> = (1..=columns).map(|column| (column, row)).collect();
+        others.retain(|&other| other != good);
+        rng.shuffle(&mut others);
+        let mut wait = vec![leaf(good), leaf(others[0])];
+        if rng.chance(20) {
+            wait.insert(1, step(good, vec![pair(others[1], others[2])]));
+        }
         waits.push(wait);
         spot = good;
     }
@@ -122,7 +126,7 @@ pub fn free_wait(spots: &[Spot], rng: &mut Rng) -> Vec<Step> {
         let mut some = spots.to_vec();
         rng.shuffle(&mut some);
         some.truncate(rng.between(1, some.len().min(6)));
-        wait.push(free_move(&some, rng));
+        add_new(&mut wait, free_move(&some, rng));
     }
     rng.shuffle(&mut wait);
     wait

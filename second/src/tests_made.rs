@@ -1,16 +1,19 @@
 //! Checks of the made-up sheets and of the corpus.
 
 use crate::corpus::{requests, Sizes};
+use crate::doubled;
 use crate::entries::{judge, WORKSPACE};
 use crate::fault;
+use crate::grow;
 use crate::limits;
 use crate::links;
 use crate::maker::{accepted, Maker};
 use crate::outcomes::{count_of_move, outcomes_of_move};
-use crate::plan::Plan;
+use crate::plan::{leaf, pair, step, Plan, NONE};
 use crate::positions;
+use crate::recipes::{LIMITS, SET_UP_DAMAGED, TWINS};
 use crate::replies;
-use crate::requests::{next, write, Ask, Next};
+use crate::requests::{next, write, Ask, Next, BYTES};
 use crate::rng::Rng;
 use crate::set_up::Side;
 use crate::sheet;
@@ -99,6 +102,66 @@ fn positions_refused() {
     }
 }
 
+/// Repeated branches are refused with 24, and at the outer wait where one stands within another.
+#[test]
+fn doubled_plans() {
+    let mut maker = Maker::new(12);
+    for _ in 0..60 {
+        let mut plan = maker.plan(300);
+        let changes: [fn(&mut Plan, &mut Rng); 4] =
+            [doubled::once, doubled::twice, doubled::nested, doubled::alone];
+        let changed = plan.root.waits_below() > 0;
+        maker.rng.pick(&changes)(&mut plan, &mut maker.rng);
+        assert_eq!(verdict(&plan.text()), if changed { 24 } else { 0 });
+        assert_eq!(plan.root.doubled(), changed);
+    }
+    let rng = &mut maker.rng;
+    for plan in [doubled::all_cells_and_one(rng), doubled::widest(rng), doubled::full(rng)] {
+        assert_eq!(verdict(&plan.text()), 24);
+    }
+    let mut plan =
+        Plan::new(9, 1, step(NONE, vec![vec![step((1, 1), vec![pair((2, 1), (3, 1))])]]));
+    plan.root.waits[0].push(leaf((4, 1)));
+    doubled::nested(&mut plan, rng);
+    let judged = judge(&plan.text(), &mut vec![0; WORKSPACE]);
+    assert_eq!(judged.verdict.numbers(), [24, 3, 0, 0]);
+}
+
+/// Branches that are nearly the same are not refused for it.
+#[test]
+fn nearly_doubled_plans() {
+    let mut maker = Maker::new(13);
+    let mut changed = 0;
+    let changes: [(fn(&mut Plan, &mut Rng), bool); 3] =
+        [(doubled::other_counts, true), (doubled::other_order, true), (doubled::other_cell, false)];
+    for _ in 0..60 {
+        for (change, joined) in changes {
+            let mut plan = maker.plan(300);
+            let before = plan.clone();
+            change(&mut plan, &mut maker.rng);
+            changed += usize::from(plan != before);
+            let told = verdict(&plan.text());
+            assert!(told == 0 || (told == 13 && !joined), "{told}");
+        }
+        assert!([0, 13].contains(&verdict(&doubled::all_cells(&mut maker.rng).text())));
+    }
+    assert!(changed >= 90, "{changed}");
+}
+
+/// Trees of nearly as many nodes as are allowed have just so many, no branch twice, and are accepted.
+#[test]
+fn full_trees() {
+    let mut maker = Maker::new(14);
+    for nodes in (2_040..=2_048).cycle().take(90) {
+        let plan = limits::many_nodes(nodes, &mut maker.rng);
+        assert_eq!((plan.root.nodes(), plan.root.doubled()), (nodes, false));
+        assert!(accepted(&plan));
+        let mut plan = maker.base(8).widened(19, 0);
+        grow::pad(&mut plan, nodes, &mut maker.rng);
+        assert!(accepted(&plan) && !plan.root.doubled());
+    }
+}
+
 /// The sheets at the limit of outcomes fall on the right side of it.
 #[test]
 fn outcome_limits() {
@@ -124,6 +187,17 @@ fn counts_and_lists() {
         assert_eq!(all.len() as u128, count_of_move(&sheet.root));
         let some = maker.rng.below(all.len()) + 1;
         assert_eq!(outcomes_of_move(&sheet.root, some), all[..some]);
+    }
+}
+
+/// No sheet is longer than a request can send, also where set-up lines come before a long text.
+#[test]
+fn sheets_can_be_sent() {
+    let mut maker = Maker::new(15);
+    for (_, recipe) in SET_UP_DAMAGED.iter().chain(&LIMITS).chain(&TWINS) {
+        for _ in 0..200 {
+            assert!(recipe(&mut maker).len() <= BYTES as usize);
+        }
     }
 }
 

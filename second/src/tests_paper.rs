@@ -236,7 +236,7 @@ fn readings_nodes() {
         text.extend(tail.bytes());
         text
     };
-    assert_eq!(verdict(&with(2_046, "")), [0, 0, 0, 0]);
+    assert_eq!(verdict(&with(2_046, "")), [24, 3, 0, 0]);
     assert_eq!(verdict(&with(2_046, "x")), [9, 2_050, 0, 0]);
     assert_eq!(verdict(&with(2_047, "")), [8, 2_050, 0, 0]);
     for tail in ["m\tb1\t0\n", "x", "\n", "\0", "m\tz1\t0\n"] {
@@ -278,7 +278,9 @@ fn lengths() {
 /// Readings 10, 11, 12: outcomes are choices, 12 by count alone, 10 and 11 over the whole tree.
 #[test]
 fn readings_fair() {
-    assert_eq!(counts("hex 2 1 D / m - 1 / w 3 / m a1 0 / m a1 0 / m b1 0"), (4, 1, 3));
+    let choices = "hex 4 1 D / m - 1 / w 3 / m a1 1 / w 2 / m b1 0 / m c1 0 / m b1 1 / w 2 / m a1 0 / m c1 0 / m d1 0";
+    assert_eq!(counts(choices), (8, 3, 5));
+    assert_eq!((listed(choices, 0, 2).1, listed(choices, 2, 2).1), (vec![1, 2], vec![1, 2]));
     let both = "hex 5 1 D / m - 1 / w 1 / m a1 1 / w 2 / m a1 0 / m b1 0";
     assert_eq!(sample(both), [10, 4, 1, 0]);
     let two = "hex 5 1 D / m - 2 / w 2 / m d1 0 / m b1 0 / w 2 / m d1 0 / m b1 0";
@@ -461,7 +463,7 @@ fn set_up_lines_elsewhere() {
     assert_eq!(with("", 2_047, "own\td1\n"), [6, 2_050, 0, 0]);
     assert_eq!(with("", 2_047, "opp"), [6, 2_050, 0, 0]);
     assert_eq!(with("", 2_046, "own\td1\n"), [9, 2_050, 0, 0]);
-    assert_eq!(with("own d1 / opp e1 / ", 2_046, ""), [0, 0, 0, 0]);
+    assert_eq!(with("own d1 / opp e1 / ", 2_046, ""), [24, 5, 0, 0]);
     assert_eq!(with("own d1 / opp e1 / ", 2_047, ""), [8, 2_052, 0, 0]);
     assert_eq!(with("own d1 / opp e1 / ", 2_047, "x"), [6, 2_052, 0, 0]);
 }
@@ -554,7 +556,7 @@ fn play_from_set_up_stones() {
     assert_eq!(refused(bridge, &[3]), (17, 1, false));
     assert_eq!(refused(bridge, &[7]), (16, 1, false));
     assert_eq!(refused(bridge, &[4, 3]), (15, 2, false));
-    let column = "hex 1 4 D / own a2 / own a4 / m a1 1 / w 2 / m a3 0 / m a3 0";
+    let column = "hex 1 4 D / own a2 / own a4 / m a1 1 / w 1 / m a3 0";
     assert_eq!(sample(column), [11, 5, 3, 0]);
     assert_eq!(played("hex 1 3 D / own a3 / own a1 / m a2 0", &[]), (done(0, true), vec![]));
 }
@@ -588,4 +590,119 @@ fn last_cell_of_nineteen() {
     assert_eq!(refused(&last, &[10]), (17, 1, false));
     let cells = listed(&last, 1, 19).1;
     assert_eq!((cells.len(), cells[0], cells[18]), (19, 10, 352));
+}
+
+/// Follow-up C-20, reading 31: any two moves of a wait whose lines, with all lines under them, are the same.
+#[test]
+fn same_branches() {
+    let root = "hex 9 1 D / m - 1";
+    let bridge = "w 2 / m c1 0 / m d1 0";
+    for wait in ["w 2 / m a1 0 / m a1 0", "w 3 / m a1 0 / m a1 0 / m b1 0"] {
+        assert_eq!(sample(&format!("{root} / {wait}")), [24, 3, 0, 0]);
+    }
+    for order in [["a1", "b1", "a1"], ["b1", "a1", "a1"]] {
+        let branches = order.map(|cell| format!(" / m {cell} 1 / {bridge}")).concat();
+        assert_eq!(sample(&format!("{root} / w 3{branches}")), [24, 3, 0, 0]);
+    }
+    let below = format!("{root} / w 2 / m a1 0 / m b1 1 / w 3 / m c1 0 / m d1 0 / m c1 0");
+    assert_eq!(sample(&below), [24, 6, 0, 0]);
+    let second = "hex 9 1 D / m - 2 / w 2 / m a1 0 / m b1 0 / w 3 / m c1 0 / m d1 0 / m d1 0";
+    assert_eq!(sample(second), [24, 6, 0, 0]);
+    assert_eq!(sample(&second.replace("m - 2", "m i1 2").replace("D", "A")), [24, 6, 0, 0]);
+    let twin = "m b1 1 / w 3 / m c1 0 / m c1 0 / m d1 0";
+    assert_eq!(sample(&format!("{root} / w 3 / m a1 0 / {twin} / {twin}")), [24, 3, 0, 0]);
+    let later = "m a1 1 / w 2 / m e1 0 / m f1 0";
+    let two = format!("{root} / w 4 / {twin} / {later} / m c1 0 / {later}");
+    assert_eq!(sample(&two), [24, 3, 0, 0]);
+    assert_eq!(
+        sample(&two.replace("m e1 0 / m f1 0 / m c1 0", "m f1 0 / m e1 0 / m c1 0")),
+        [24, 5, 0, 0]
+    );
+}
+
+/// Branches that are nearly the same: another cell, count or order somewhere, and the same lines under two waits.
+#[test]
+fn unlike_branches() {
+    let with = |one: &str, other: &str| {
+        sample(&format!("hex 9 1 D / m - 1 / w 3 / {one} / {other} / m i1 0"))[0]
+    };
+    let branch = "m a1 2 / w 2 / m c1 0 / m d1 0 / w 2 / m e1 0 / m f1 0";
+    assert_eq!(with(branch, branch), 24);
+    for (old, new) in [("m f1 0", "m g1 0"), ("m c1 0", "m g1 0"), ("m a1 2", "m b1 2")] {
+        assert_eq!(with(branch, &branch.replace(old, new)), 0, "{new}");
+    }
+    assert_eq!(with(branch, &branch.replace("m c1 0 / m d1 0", "m d1 0 / m c1 0")), 0);
+    assert_eq!(with(branch, "m a1 1 / w 2 / m c1 0 / m d1 0"), 0);
+    assert_eq!(with("m a1 0", "m a1 1 / w 2 / m c1 0 / m d1 0"), 0);
+    let low = "m a1 1 / w 3 / m b1 1 / w 2 / m c1 0 / m d1 0 / m e1 0 / m f1 0";
+    let high = "m a1 1 / w 2 / m b1 1 / w 3 / m c1 0 / m d1 0 / m e1 0 / m f1 0";
+    assert_eq!((with(low, high), with(high, high)), (0, 24));
+    let shared =
+        "hex 9 1 D / m - 1 / w 2 / m a1 1 / w 2 / m c1 0 / m d1 0 / m b1 1 / w 2 / m c1 0 / m d1 0";
+    assert_eq!(sample(shared), [11, 3, 3, 0]);
+}
+
+/// The place of 24: after 20 and 10 wherever they are, before 11, 12 and 13; and by all three entries.
+#[test]
+fn order_of_same_branches() {
+    let twins = "w 2 / m a1 0 / m a1 0";
+    assert_eq!(sample(&format!("hex 9 2 D / m - 2 / {twins} / w 1 / m b1 0")), [24, 3, 0, 0]);
+    assert_eq!(sample(&format!("hex 9 2 D / m - 2 / w 1 / m b1 0 / {twins}")), [24, 5, 0, 0]);
+    let apart = "w 2 / m b1 1 / w 2 / m b1 0 / m c1 0 / m d1 0";
+    assert_eq!(sample(&format!("hex 9 2 D / m - 2 / {twins} / {apart}")), [10, 7, 2, 0]);
+    assert_eq!(sample(&format!("hex 9 2 D / m - 2 / {apart} / {twins}")), [10, 4, 2, 0]);
+    assert_eq!(sample("hex 9 2 D / m a1 1 / w 2 / m a1 0 / m a1 0"), [10, 2, 1, 0]);
+    for (stone, wanted) in [("a1", [20, 5, 1, 0]), ("i2", [24, 4, 0, 0])] {
+        assert_eq!(sample(&format!("hex 9 2 D / opp {stone} / m - 1 / {twins}")), wanted);
+    }
+    assert_eq!(sample(&format!("hex 9 2 D / m - 1 / {twins} / x")), [9, 6, 0, 0]);
+    assert_eq!(sample("hex 9 2 D / m - 1 / w 3 / m a1 0 / m a1 0"), [8, 6, 0, 0]);
+    let many = twos(17).replace("m b1 0", "m a1 0");
+    assert_eq!(sample(&many), [24, 3, 0, 0]);
+    let unjoined = format!("hex 9 2 D / m - 1 / {twins}");
+    assert_eq!((listed(&unjoined, 9, 0).0, refused(&unjoined, &[0])), (24, (24, 0, false)));
+    let joined = format!("hex 9 1 D / own b1 / own c1 / m - 1 / {twins}");
+    assert_eq!((sample(&joined), listed(&joined, 0, 9).0), ([24, 5, 0, 0], 24));
+    assert_eq!(refused(&joined, &[9]), (24, 0, false));
+}
+
+/// Writes a wait of so many single moves on 19 by 19 under a root without a stone, each on the cell that `cell` gives its place.
+fn single_moves(count: usize, cell: impl Fn(usize) -> usize) -> String {
+    let name = |at: usize| format!("{}{}", char::from(b'a' + (at % 19) as u8), at / 19 + 1);
+    let moves: String = (0..count).map(|place| format!(" / m {} 0", name(cell(place)))).collect();
+    format!("hex 19 19 D / m - 1 / w {count}{moves}")
+}
+
+/// Writes a sheet of 2,048 nodes with one wait under its root: two single moves, 510 unlike branches of four lines, and another.
+fn full_size(last: &str) -> String {
+    let triples = (0..1_000).map(|place| [place / 100, place / 10 % 10, place % 10]);
+    let unlike = triples.filter(|[one, two, three]| one != two && two != three && one != three);
+    let mut sample = "hex 19 1 D / m - 1 / w 513 / m a1 0 / m b1 0".to_string();
+    for triple in unlike.take(510) {
+        let [one, two, three] = triple.map(|at: usize| char::from(b'c' + at as u8));
+        sample += &format!(" / m {one}1 1 / w 2 / m {two}1 0 / m {three}1 0");
+    }
+    format!("{sample} / {last}")
+}
+
+/// The same branch at the limits: 361 unlike single moves, one more, 2,046 of them, and the last lines of 2,048 nodes.
+#[test]
+fn same_branches_at_limits() {
+    assert_eq!(sample(&single_moves(361, |place| place)), [13, 0, 0, 0]);
+    assert_eq!(sample(&single_moves(362, |place| place % 361)), [24, 3, 0, 0]);
+    assert_eq!(sample(&single_moves(2_046, |place| place % 361)), [24, 3, 0, 0]);
+    assert_eq!(sample(&single_moves(2_046, |place| place.min(360))), [24, 3, 0, 0]);
+    let stones = single_moves(360, |place| place).replace("D /", "D / own s19 /");
+    assert_eq!(sample(&stones), [13, 0, 0, 0]);
+    assert_eq!(sample(&stones.replace("m r19 0", "m a1 0")), [24, 4, 0, 0]);
+    let last = "m q1 1 / w 2 / m r1 0 / m s1 0";
+    assert_eq!(counts(&full_size(last)), (1_536, 512, 1_024));
+    assert_eq!(sample(&full_size(&last.replace("s1", "r1"))), [24, 2_047, 0, 0]);
+    for (cells, wanted) in
+        [(["c1", "d1", "e1"], 24), (["c1", "d1", "m1"], 0), (["l1", "k1", "j1"], 0)]
+    {
+        let [one, two, three] = cells;
+        let branch = format!("m {one} 1 / w 2 / m {two} 0 / m {three} 0");
+        assert_eq!(sample(&full_size(&branch))[0], wanted, "{branch}");
+    }
 }

@@ -1,5 +1,7 @@
 //! The verdict: one value with a case for each kind of reply and its details.
 
+use crate::fault::{self, Fault};
+
 /// What an entry decides.
 #[derive(Clone, Copy, PartialEq, Eq, Debug)]
 pub enum Verdict {
@@ -24,6 +26,7 @@ pub enum Verdict {
     NoSuchOutcome,
     NamedTwice { line: usize, cell: usize },
     OnStone { line: usize, cell: usize },
+    BranchTwice { line: usize },
 }
 
 impl Verdict {
@@ -51,6 +54,9 @@ impl Verdict {
             Verdict::NoSuchOutcome => [18, 0, 0, 0],
             Verdict::NamedTwice { line, cell } => [19, line, cell, 0],
             Verdict::OnStone { line, cell } => [20, line, cell, 0],
+            Verdict::BranchTwice { line } => {
+                [24, line, usize::from(fault::on(Fault::TwinsCell)), 0]
+            }
         }
     }
 }
