@@ -24,7 +24,7 @@ use nodes::under_at;
 use nodes::with_stone;
 use rules::Board;
 
-// The first faulty node, and its smallest faulty cell.
+// The first faulty node, and its smallest faulty cell; 0 where the fault is not a cell's.
 pub enum Fault {
     At { node: usize, cell: u32 },
     Nothing,
