@@ -12,7 +12,7 @@ use lib.ListN.{length}
 use Rattle.rules.specs.Sizes.{mostNodes}
 use Rattle.rules.specs.declared.Board.{Board}
 use Rattle.rules.specs.Board.{isCell, cells, smallest}
-use Rattle.rules.specs.Words.{among, firstSome, twice}
+use Rattle.rules.specs.Words.{among, firstSome}
 use Rattle.rules.specs.Tree.{Wait, Move, Sheet, setUpCells, everyMove, everyWait}
 use Rattle.rules.specs.Fair.{Fault, onSetUp, notApart, notElusive, faultAt, firstFault, twiceAt, firstOnSetUp, firstNotApart, firstTwice, firstNotElusive}
 use Rattle.rules.proofs.Tests.{snd}
