@@ -1,18 +1,20 @@
 -- The answering rule answers, and its answer is one that the holder may take.
 use mathlib.Core.Path.{_≡_, refl, sym, ap, _∙_, subst}
-use mathlib.Core.Bool.{Bool, false, not, _||_}
+use mathlib.Core.Bool.{Bool, false, not, _&&_, _||_}
 use mathlib.Core.Logic.{_⊎_, inl, inr, ⊎-elim}
-use mathlib.Core.Option.{Option, some, Option·map}
+use mathlib.Core.Option.{Option, none, some, Option·map}
 use Prim.Native.Nat.{ℕ, _≤_, min}
 use native.Mathlib.Omega.{arith}
 use lib.Dec.{T, eqb, leb, leb→le, eqb-refl, nleb→lt, not-T, T-not}
 use Rattle.rules.specs.Tree.{Waits, noWaits, wait, Moves, noMoves, move}
-use Rattle.rules.specs.Fair.{inWaits, inMoves, inMove, inEvery}
-use Rattle.rules.specs.Choice.{the-first, one-later, PlaceIn, cellThere, waitsThere, Choice, firstMove, firstUnder}
+use Rattle.rules.specs.Fair.{inWaits, inMoves, inEvery}
+use Rattle.rules.specs.Live.{isLive}
+use Rattle.rules.specs.Choice.{the-first, one-later, PlaceIn, Choice, firstMove, firstUnder}
 use Rattle.rules.specs.Answering.{smallestLine, firstLine, touchedAnswer, freeAnswer, answer}
-use Rattle.rules.specs.Holder.{waitHolds, moveHolds, allowed}
-use Rattle.rules.proofs.Tests.{decide, both, fst, snd, left, right, cases, nand, twice, cond-yes, cond-no}
+use Rattle.rules.specs.Holder.{waitHolds, moveHolds, liveThere, liveChoice, allowed}
+use Rattle.rules.proofs.Tests.{decide, both, fst, snd, left, right, cases, cond-yes, cond-no}
 use Rattle.rules.proofs.Opening.{Elusive, FairWaits, waitsIn, at-in}
+use Rattle.rules.proofs.Live.{Common, without, dodge-live}
 
 -- a choice that `firstUnder` finds, with what is to be said of it
 pub record Finds (which : ℕ → Moves → Bool) (test : ℕ → Waits → Bool) (P : (ws : Waits) → Choice ws → Type 0) (ws : Waits) : Type 0 where
@@ -44,39 +46,16 @@ module _ (which : ℕ → Moves → Bool) (test : ℕ → Waits → Bool) (P : (
         fact = f;
       }
 
--- The first move that does not hold x, under an elusive wait
-abbrev without : ℕ → ℕ → Waits → Bool
-without x c ws = not (inMove c ws x)
-
-abbrev Dodge : ℕ → Moves → Type 0
-Dodge x ms = (p : PlaceIn ms) × (firstMove (without x) ms ≡ some p) × T (without x (cellThere ms p) (waitsThere ms p))
-
-dodge-later : (x line c : ℕ) (ws : Waits) (ms : Moves) → T (inMove c ws x) → Dodge x ms → Dodge x (move line c ws ms)
-dodge-later x line c ws ms i d = (
-  one-later (d .0),
-  cond-no (without x c ws) (some (the-first tt)) (Option·map one-later (firstMove (without x) ms)) (twice (inMove c ws x) i) ∙ ap (λ (q : Option (PlaceIn ms)). Option·map one-later q) (d .1),
-  d .2,
-)
-
-dodge : (x : ℕ) (ms : Moves) → T (not (inEvery ms x)) → Dodge x ms
-unfolding inEvery
-dodge x noMoves h = absurd h
-dodge x (move line c ws ms) h =
-    ⊎-elim
-    (λ i. dodge-later x line c ws ms i (dodge x ms (⊎-elim (λ n. absurd (T-not (inMove c ws x) n i)) (λ n. n) (nand (inMove c ws x) (inEvery ms x) h))))
-    (λ n. (the-first tt, cond-yes (without x c ws) (some (the-first tt)) (Option·map one-later (firstMove (without x) ms)) n, n))
-    (decide (inMove c ws x))
-
 -- The rule where x is a cell of an open wait
 abbrev Dodges : ℕ → (ws : Waits) → Choice ws → Type 0
-Dodges x ws k = T (not (moveHolds x ws k)) × T (waitHolds x ws k)
+Dodges x ws k = T (liveChoice ws k) × T (not (moveHolds x ws k)) × T (waitHolds x ws k)
 
 touched : (x : ℕ) (ws : Waits) → FairWaits ws → T (inWaits ws x) → Finds (λ line ms. inMoves ms x) (without x) (Dodges x) ws
-unfolding FairWaits inWaits
+unfolding FairWaits inWaits liveChoice Common
 touched x noWaits f h = absurd h
 touched x (wait line ms ws) f h =
     ⊎-elim
-    (λ i. let d = dodge x ms (f .0 x) in finds-here (λ line ms. inMoves ms x) (without x) (Dodges x) line ms ws i (d .0) (d .1) (d .2, i))
+    (λ i. let d = dodge-live none x ms tt (f .0 x) in finds-here (λ line ms. inMoves ms x) (without x) (Dodges x) line ms ws i (d .0) (d .1) (d .3, d .2, i))
     (λ n.
     let d = touched x ws (f .2) (⊎-elim (λ i. absurd (T-not (inMoves ms x) n i)) (λ i. i) (cases (inMoves ms x) (inWaits ws x) h)) in
     finds-later (λ line ms. inMoves ms x) (without x) (Dodges x) line ms ws n d (d .fact))
@@ -87,25 +66,26 @@ hasLine : ℕ → Waits → Bool
 hasLine n noWaits = false
 hasLine n (wait line ms ws) = eqb line n || hasLine n ws
 
-abbrev Any : (ws : Waits) → Choice ws → Type 0
-Any ws k = Unit {0}
+abbrev Lives : (ws : Waits) → Choice ws → Type 0
+Lives ws k = T (liveChoice ws k)
 
--- where every move passes the test, the first one does
-first-passes : (test : ℕ → Waits → Bool) → ((c : ℕ) (ws : Waits) → T (test c ws)) → (ms : Moves) → Elusive ms → (p : PlaceIn ms) × (firstMove test ms ≡ some p)
-unfolding inEvery
+-- where every move passes the test, the first one does, and it is live
+first-passes : (test : ℕ → Waits → Bool) → ((c : ℕ) (ws : Waits) → T (test c ws)) → (ms : Moves) → Elusive ms
+    → (p : PlaceIn ms) × (firstMove test ms ≡ some p) × T (liveThere none ms p)
+unfolding inEvery liveThere isLive
 first-passes test all noMoves e = absurd (e 0)
-first-passes test all (move line c ws ms) e = (the-first tt, cond-yes (test c ws) (some (the-first tt)) (Option·map one-later (firstMove test ms)) (all c ws))
+first-passes test all (move line c ws ms) e = (the-first tt, cond-yes (test c ws) (some (the-first tt)) (Option·map one-later (firstMove test ms)) (all c ws), tt)
 
 free : (test : ℕ → Waits → Bool) → ((c : ℕ) (ws : Waits) → T (test c ws)) → (n : ℕ) (ws : Waits) → FairWaits ws → T (hasLine n ws)
-    → Finds (λ line ms. eqb line n) test Any ws
-unfolding FairWaits hasLine
+    → Finds (λ line ms. eqb line n) test Lives ws
+unfolding FairWaits hasLine liveChoice
 free test all n noWaits f h = absurd h
 free test all n (wait line ms ws) f h =
     ⊎-elim
-    (λ i. let d = first-passes test all ms (f .0) in finds-here (λ line ms. eqb line n) test Any line ms ws i (d .0) (d .1) tt)
+    (λ i. let d = first-passes test all ms (f .0) in finds-here (λ line ms. eqb line n) test Lives line ms ws i (d .0) (d .1) (d .2))
     (λ k.
     let d = free test all n ws (f .2) (⊎-elim (λ i. absurd (T-not (eqb line n) k i)) (λ i. i) (cases (eqb line n) (hasLine n ws) h)) in
-    finds-later (λ line ms. eqb line n) test Any line ms ws k d tt)
+    finds-later (λ line ms. eqb line n) test Lives line ms ws k d (d .fact))
     (decide (eqb line n))
 
 min-cases : (k l : ℕ) → (min k l ≡ k) ⊎ (min k l ≡ l)
@@ -141,19 +121,29 @@ held x (wait line ms ws) (the-first p) h = left (inMoves ms x) (inWaits ws x) (a
 held x (wait line ms ws) (one-later k) h = right (inMoves ms x) (inWaits ws x) (held x ws k h)
 
 -- What `allowed` says, and how to show it
-allow : (x : ℕ) (ws : Waits) (k : Choice ws) → T (not (moveHolds x ws k)) → T (waitHolds x ws k) ⊎ T (not (inWaits ws x)) → T (allowed x ws k)
+abbrev apartFrom : ℕ → (ws : Waits) → Choice ws → Bool
+apartFrom x ws k = not (moveHolds x ws k) && (waitHolds x ws k || not (inWaits ws x))
+
+allow : (x : ℕ) (ws : Waits) (k : Choice ws) → T (liveChoice ws k) → T (not (moveHolds x ws k)) → T (waitHolds x ws k) ⊎ T (not (inWaits ws x)) → T (allowed x ws k)
 unfolding allowed
-allow x ws k n w =
-    both (not (moveHolds x ws k)) (waitHolds x ws k || not (inWaits ws x)) n
-    (⊎-elim (left (waitHolds x ws k) (not (inWaits ws x))) (right (waitHolds x ws k) (not (inWaits ws x))) w)
+allow x ws k l n w =
+    both (liveChoice ws k) (apartFrom x ws k) l
+    (both (not (moveHolds x ws k)) (waitHolds x ws k || not (inWaits ws x)) n
+    (⊎-elim (left (waitHolds x ws k) (not (inWaits ws x))) (right (waitHolds x ws k) (not (inWaits ws x))) w))
+
+pub is-live : (x : ℕ) (ws : Waits) (k : Choice ws) → T (allowed x ws k) → T (liveChoice ws k)
+unfolding allowed
+is-live x ws k h = fst (liveChoice ws k) (apartFrom x ws k) h
 
 pub not-held : (x : ℕ) (ws : Waits) (k : Choice ws) → T (allowed x ws k) → T (not (moveHolds x ws k))
 unfolding allowed
-not-held x ws k h = fst (not (moveHolds x ws k)) (waitHolds x ws k || not (inWaits ws x)) h
+not-held x ws k h = fst (not (moveHolds x ws k)) (waitHolds x ws k || not (inWaits ws x)) (snd (liveChoice ws k) (apartFrom x ws k) h)
 
 pub right-wait : (x : ℕ) (ws : Waits) (k : Choice ws) → T (allowed x ws k) → T (waitHolds x ws k) ⊎ T (not (inWaits ws x))
 unfolding allowed
-right-wait x ws k h = cases (waitHolds x ws k) (not (inWaits ws x)) (snd (not (moveHolds x ws k)) (waitHolds x ws k || not (inWaits ws x)) h)
+right-wait x ws k h =
+    cases (waitHolds x ws k) (not (inWaits ws x))
+    (snd (not (moveHolds x ws k)) (waitHolds x ws k || not (inWaits ws x)) (snd (liveChoice ws k) (apartFrom x ws k) h))
 
 -- the rule's answer, which is allowed
 abbrev Answers : ℕ → Waits → Type 0
@@ -163,7 +153,7 @@ answers-touched : (x : ℕ) (ws : Waits) → FairWaits ws → T (inWaits ws x) �
 unfolding answer touchedAnswer
 answers-touched x ws f i =
     let d = touched x ws f i in
-    (d .choice, cond-yes (inWaits ws x) _ _ i ∙ d .is-first, allow x ws (d .choice) (d .fact .0) (inl (d .fact .1)))
+    (d .choice, cond-yes (inWaits ws x) _ _ i ∙ d .is-first, allow x ws (d .choice) (d .fact .0) (d .fact .1) (inl (d .fact .2)))
 
 answers-free : (x : ℕ) (ws : Waits) → FairWaits ws → 1 ≤ waitsIn ws → T (not (inWaits ws x)) → Answers x ws
 unfolding answer freeAnswer
@@ -171,7 +161,7 @@ answers-free x ws f c n =
     let d = free _ (λ c us. tt) (firstLine ws) ws f (first-line ws c) in (
       d .choice,
       cond-no (inWaits ws x) _ _ n ∙ d .is-first,
-      allow x ws (d .choice) (not-T (moveHolds x ws (d .choice)) (λ m. T-not (inWaits ws x) n (held x ws (d .choice) m))) (inr n),
+      allow x ws (d .choice) (d .fact) (not-T (moveHolds x ws (d .choice)) (λ m. T-not (inWaits ws x) n (held x ws (d .choice) m))) (inr n),
     )
 
 pub answers : (x : ℕ) (ws : Waits) → FairWaits ws → 1 ≤ waitsIn ws → (k : Choice ws) × (answer x ws ≡ some k) × T (allowed x ws k)

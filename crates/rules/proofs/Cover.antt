@@ -18,6 +18,7 @@ use Rattle.rules.specs.Joining.{joined}
 use Rattle.rules.specs.Tree.{Waits, noWaits, wait, Moves, noMoves, move, Wait, Move, Sheet, stone, setUpCells, ownCells, oppCells, atStart, movesOfWaits, movesOfMoves, waitsOfWaits, waitsOfMoves, everyMove, everyWait, waitCount}
 use Rattle.rules.specs.Reading.{got}
 use Rattle.rules.specs.Fair.{inWaits, inMoves, inMove, holding, inEvery}
+use Rattle.rules.specs.Live.{living}
 use Rattle.rules.specs.Outcomes.{outcomes, outcomesOfWaits}
 use Rattle.rules.specs.Choice.{Choice, taken, opened}
 use Rattle.rules.specs.Answering.{answer, Game, start, mine, isOver, isTaken, isEmpty, next, answeredBy, answered}
@@ -34,7 +35,7 @@ use Rattle.rules.proofs.Smallest.{smallest-some, smallest-none}
 use Rattle.rules.proofs.Given.{accepted-exactly}
 use Rattle.rules.proofs.EachOutcome.{Each, Inside, each-in, each-unmap, each-opened}
 use Rattle.rules.proofs.Opening.{Apart, Elusive, FairWaits, FairMoves, waitsIn, waits-counted, hold-in, out-hold, fair-opened, count-opened, hold-opened, taken-hold, taken-opened, dodged, taken-not}
-use Rattle.rules.proofs.Answering.{answers, not-held, right-wait}
+use Rattle.rules.proofs.Answering.{answers, is-live, not-held, right-wait}
 
 -- What the tree of an accepted sheet has, for every number
 abbrev OnBoard : Board → Waits → Type 0
@@ -94,7 +95,7 @@ module _ (b : Board) where
   mutual
     unfolding FairWaits movesOfWaits waitsOfWaits
 
-    fair-waits : (ws : Waits) → ((m : Move) → m ∈ movesOfWaits ws → GoodMove m) → ((w : Wait) → w ∈ waitsOfWaits ws → GoodWait w) → FairWaits ws
+    pub fair-waits : (ws : Waits) → ((m : Move) → m ∈ movesOfWaits ws → GoodMove m) → ((w : Wait) → w ∈ waitsOfWaits ws → GoodWait w) → FairWaits ws
     fair-waits noWaits f g = tt
     fair-waits (wait line ms ws) f g =
         let here = g (record { line = line; moves = ms }) at-head in
@@ -121,7 +122,7 @@ record Safe (s : Sheet) (g : Game) : Type 0 where
   board : (y : ℕ) → 1 ≤ holding (g .open-waits) y → T (isCell (s .board) y)
   off-mine : (y : ℕ) → T (among (mine s g) y) → holding (g .open-waits) y ≡ 0
   off-theirs : (y : ℕ) → T (among (g .theirs) y) → holding (g .open-waits) y ≡ 0
-  joins : Each (λ o. T (joined (s .board) (s .player) (among (mine s g ++ o)))) (outcomesOfWaits (g .open-waits))
+  joins : Each (λ o. T (joined (s .board) (s .player) (among (mine s g ++ o)))) (outcomesOfWaits (living (g .open-waits)))
 
 -- the start
 begin : (w : ℕ) (t : Bytes) (s : Sheet) → IsSheet w t s → Safe s (start s)
@@ -147,7 +148,7 @@ begin w t s a =
       off-theirs = λ y h. off y (right (among (ownCells (s .set-up)) y) (among (oppCells (s .set-up)) y) h);
       joins =
           each-map-nil
-          (each-unmap (λ o. T (joined b (s .player) (among o))) (λ o. atStart s ++ o) (outcomesOfWaits ws)
+          (each-unmap (λ o. T (joined b (s .player) (among o))) (λ o. atStart s ++ o) (outcomesOfWaits (living ws))
           (each-in (λ o. T (joined b (s .player) (among o))) (outcomes s) (λ o i. joins→joined b (s .player) (among o) (a .satisfying o i))));
     }
   where
@@ -167,8 +168,8 @@ begin w t s a =
         (λ e. absurd e)
         (cases (eqb y (suc c)) false h)
 
-    each-map-nil : Each (λ o. T (joined (s .board) (s .player) (among (atStart s ++ o)))) (outcomesOfWaits (s .root .waits))
-        → Each (λ o. T (joined (s .board) (s .player) (among ((atStart s ++ []) ++ o)))) (outcomesOfWaits (s .root .waits))
+    each-map-nil : Each (λ o. T (joined (s .board) (s .player) (among (atStart s ++ o)))) (outcomesOfWaits (living (s .root .waits)))
+        → Each (λ o. T (joined (s .board) (s .player) (among ((atStart s ++ []) ++ o)))) (outcomesOfWaits (living (s .root .waits)))
     each-map-nil h = rw (append-nil (atStart s)) h
 
 -- a stone more
@@ -222,8 +223,8 @@ safe-next s g i x k h =
           (subst (λ (l : List ℕ). T (among l y)) same m);
       off-theirs = cleared x (g .theirs) ws (opened ws k) (λ y. hold-opened y ws (i .fair) k) (gone x ws (i .fair) (i .once x) k h) (i .off-theirs);
       joins =
-          subst⁻¹ (λ (l : List ℕ). Each (λ o. T (joined (s .board) (s .player) (among (l ++ o)))) (outcomesOfWaits (opened ws k))) same
-          (each-opened ws k
+          subst⁻¹ (λ (l : List ℕ). Each (λ o. T (joined (s .board) (s .player) (among (l ++ o)))) (outcomesOfWaits (living (opened ws k)))) same
+          (each-opened ws k (is-live x ws k h)
           (λ o. T (joined (s .board) (s .player) (among (mine s g ++ o))))
           (λ r. T (joined (s .board) (s .player) (among ((mine s g ++ c ∷ []) ++ r))))
           (λ o r inside. joined-more (s .board) (s .player) (among (mine s g ++ o)) (among ((mine s g ++ c ∷ []) ++ r)) (λ y on. stones-inside (mine s g) c o r inside y))
@@ -248,10 +249,10 @@ choice-empty s g i x k h = (
 
 -- until the sides are joined a wait is open
 waiting : (s : Sheet) (g : Game) → Safe s g → T (not (isOver s g)) → 1 ≤ waitsIn (g .open-waits)
-unfolding isOver waitsIn outcomesOfWaits
+unfolding isOver waitsIn living outcomesOfWaits
 waiting s g i u = go (g .open-waits) (i .joins)
   where
-    go : (ws : Waits) → Each (λ o. T (joined (s .board) (s .player) (among (mine s g ++ o)))) (outcomesOfWaits ws) → 1 ≤ waitsIn ws
+    go : (ws : Waits) → Each (λ o. T (joined (s .board) (s .player) (among (mine s g ++ o)))) (outcomesOfWaits (living ws)) → 1 ≤ waitsIn ws
     go noWaits h =
         absurd
         (T-not (joined (s .board) (s .player) (among (mine s g))) u

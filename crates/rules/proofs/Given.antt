@@ -119,7 +119,7 @@ module _ (b : Board) (p : Player) where
   abbrev Joining : List ℕ → Type 0
   Joining o = Joins b p (among o)
 
-  all-joined : (n : ℕ) (os : List (List ℕ)) → ((o : List ℕ) → o ∈ os → Joining o) → refuseUnjoined b p n os ≡ got tt
+  pub all-joined : (n : ℕ) (os : List (List ℕ)) → ((o : List ℕ) → o ∈ os → Joining o) → refuseUnjoined b p n os ≡ got tt
   unfolding refuseUnjoined
   all-joined n [] h = refl
   all-joined n (o ∷ os) h =
@@ -138,7 +138,7 @@ module _ (b : Board) (p : Player) where
       (first-unjoined (n + 1) os i (omega arith) not-so (λ j h. so (suc j) (omega arith)) ∙ ap (λ (k : ℕ). refused (NotJoined k)) z)
 
   -- what the walk comes to
-  data Walked (n : ℕ) (os : List (List ℕ)) : Result (Unit {0}) → Type 0 where
+  pub data Walked (n : ℕ) (os : List (List ℕ)) : Result (Unit {0}) → Type 0 where
     all : ((o : List ℕ) → o ∈ os → Joining o) → Walked n os (got tt)
     first : (i : ℕ) → i < length os → (Joining (getD os i []) → ⊥) → ((j : ℕ) → j < i → Joining (getD os j [])) → Walked n os (refused (NotJoined (n + i)))
 
@@ -152,7 +152,7 @@ module _ (b : Board) (p : Player) where
       joined-below y zero h = j
       joined-below y (suc k) h = y k (omega arith)
 
-  walked : (n : ℕ) (os : List (List ℕ)) → Walked n os (refuseUnjoined b p n os)
+  pub walked : (n : ℕ) (os : List (List ℕ)) → Walked n os (refuseUnjoined b p n os)
   unfolding refuseUnjoined
   walked n [] = all (λ o i. absurd (nothing-in i))
   walked n (o ∷ os) = go (joined b p (among o)) refl (walked (n + 1) os)

@@ -20,14 +20,17 @@ pub mod Begun
 pub mod Given
 pub mod Refusals
 pub mod Opening
+pub mod Live
 pub mod Answering
 pub mod EachOutcome
+pub mod Living
 pub mod Cover
 pub mod GoesOn
 pub mod SameReplies
 pub mod UpTo
 pub mod Before
 pub mod Once
+pub mod Spare
 pub mod OneReply
 pub mod Small
 pub mod OneMove

@@ -4,6 +4,7 @@ use Prim.Native.Nat.{_<_}
 use native.Mathlib.Omega.{arith}
 use mathlib.Core.List.{[], _∷_}
 use mathlib.Core.Option.{none}
+use lib.Dec.{T}
 use Rattle.rules.specs.Sizes.{leastWorkspace}
 use Rattle.rules.specs.Words.{at-head}
 use Rattle.rules.specs.Board.{smallest}
@@ -14,20 +15,22 @@ use Rattle.rules.specs.Choice.{the-first, one-later}
 use Rattle.rules.specs.Answering.{start, answered, next, isEmpty}
 use Rattle.rules.specs.Plain.{IsSheet, WellRead, IsElusive}
 use Rattle.rules.specs.Promise.{Ruled, no-move, one-move, MovesToEmpty}
-use Rattle.rules.specs.Holder.{Chosen, no-round, round}
+use Rattle.rules.specs.Holder.{Chosen, no-round, round, liveChoice}
+use Rattle.rules.specs.Spare.{StillAccepted, gameAfter}
 use Rattle.rules.specs.Entries.{read, readUpTo, fair}
 use Rattle.rules.specs.SameReplies.{SameReplies}
 use Rattle.rules.specs.UpTo.{NoSizeFrom}
 use Rattle.rules.specs.Before.{WithoutSetUp, SameWithoutSetUp}
 use Rattle.rules.specs.Once.{WithoutTwice, fairWithout24}
-use Rattle.rules.specs.Samples.{byteOf, sheet, P1, P3, p1, p3, stones, onStones}
-use Rattle.rules.specs.Computed.{p1-accepted, p1-opens, p1-header, p3-read, stones-accepted, stones-open}
+use Rattle.rules.specs.Samples.{byteOf, sheet, P1, P3, p1, p3, stones, onStones, spare, onSpare}
+use Rattle.rules.specs.Computed.{p1-accepted, p1-opens, p1-header, p3-read, stones-accepted, stones-open, spare-taken, spare-answers}
 use Rattle.rules.proofs.Steps.{some-inj}
 use Rattle.rules.proofs.Lines.{header-back, no-set-up-line}
 use Rattle.rules.proofs.Unread.{read-no-line}
 use Rattle.rules.proofs.UpTo.{small-same}
 use Rattle.rules.proofs.Before.{same-without}
 use Rattle.rules.proofs.Once.{same-once, accepted-once}
+use Rattle.rules.proofs.Spare.{live-answers, spared-as-before}
 use Rattle.rules.proofs.Written.{reads-exactly}
 use Rattle.rules.proofs.Given.{accepted-exactly}
 use Rattle.rules.proofs.Cover.{demand-3}
@@ -88,6 +91,19 @@ stones-sheet = accepted-exactly leastWorkspace (sheet stones) onStones .0 stones
 
 pub stones-ruled : Ruled onStones (start onStones) (3 ∷ []) (answered (start onStones) 3)
 stones-ruled = one-move (stones-open .0) (stones-open .1) no-move
+
+-- a sheet with a move that isn't live: it is a sheet, and was one while outcomes ran over every move; what the rule answers on it
+pub spare-sheet : IsSheet leastWorkspace (sheet spare) onSpare
+spare-sheet = accepted-exactly leastWorkspace (sheet spare) onSpare .0 (spare-taken .0)
+
+pub spare-still : StillAccepted leastWorkspace (sheet spare) onSpare
+spare-still = spared-as-before .accepts leastWorkspace (sheet spare) onSpare (spare-taken .1)
+
+pub spare-answer : T (liveChoice (onSpare .root .waits) (the-first (one-later (the-first tt))))
+unfolding start gameAfter
+spare-answer =
+    live-answers onSpare (spare-sheet .fair .read .spells .well) (spare-sheet .fair .apart) (spare-sheet .fair .elusive) [] 4
+    (the-first (one-later (the-first tt))) spare-answers
 
 -- P3 is read, and the one move of its wait is its fault
 pub p3-faulty : IsElusive (p3 .board) (record { line = 3; moves = move 4 3 noWaits noMoves }) → ⊥

@@ -7,6 +7,7 @@ use lib.Seq.{getD-append-add}
 use native.Mathlib.Nat.{mod-lt, div-lt-iff-lt-mul, div-add-mod'}
 use native.Mathlib.Omega.{arith}
 use Rattle.rules.specs.Tree.{Waits, noWaits, wait, Moves, noMoves, move, Sheet, stone, atStart}
+use Rattle.rules.specs.Live.{living}
 use Rattle.rules.specs.Outcomes.{eachWithEach, outcomesOfWaits, outcomesOfMoves, countOfWaits, countOfMoves, outcomes, outcomeCount}
 
 length-each : (xs ys : List (List ℕ)) → length (eachWithEach xs ys) ≡ length xs * length ys
@@ -31,7 +32,7 @@ mutual
 -- the count is the length of the list
 pub count-is-length : (s : Sheet) → length (outcomes s) ≡ outcomeCount s
 unfolding outcomes outcomeCount
-count-is-length s = length-map (outcomesOfWaits (s .root .waits)) (λ o. atStart s ++ o) ∙ count-waits (s .root .waits)
+count-is-length s = length-map (outcomesOfWaits (living (s .root .waits))) (λ o. atStart s ++ o) ∙ count-waits (living (s .root .waits))
 
 nth-map : (f : List ℕ → List ℕ) (ys : List (List ℕ)) (i : ℕ) → i < length ys → getD (map f ys) i [] ≡ f (getD ys i [])
 nth-map f [] i h = absurd (omega arith)
@@ -88,8 +89,8 @@ nth-later line c ws ms i h =
 
 -- of the root
 pub nth-outcome : (s : Sheet) (i : ℕ) → i < outcomeCount s
-    → getD (outcomes s) i [] ≡ atStart s ++ getD (outcomesOfWaits (s .root .waits)) i []
+    → getD (outcomes s) i [] ≡ atStart s ++ getD (outcomesOfWaits (living (s .root .waits))) i []
 unfolding outcomes outcomeCount
 nth-outcome s i h =
-    let l : i < length (outcomesOfWaits (s .root .waits)) = omega (arith, count-waits (s .root .waits)) in
-    nth-map (λ o. atStart s ++ o) (outcomesOfWaits (s .root .waits)) i l
+    let l : i < length (outcomesOfWaits (living (s .root .waits))) = omega (arith, count-waits (living (s .root .waits))) in
+    nth-map (λ o. atStart s ++ o) (outcomesOfWaits (living (s .root .waits))) i l

@@ -26,6 +26,9 @@ not-refused e = subst⁻¹ Got e tt
 pub got-inj : {X : Type 0} {x y : X} → got x ≡ got y → x ≡ y
 got-inj p = cc
 
+pub refused-inj : {X : Type 0} {u v : Verdict} → _≡_ {A = Result X} (refused u) (refused v) → u ≡ v
+refused-inj p = cc
+
 pub bind-some : {A B : Type 0} (r : Option (A × Bytes)) (f : A → Reader B) (y : B × Bytes) → bind r f ≡ some y
     → (x : A × Bytes) × (r ≡ some x) × (f (x .0) (x .1) ≡ some y)
 unfolding bind

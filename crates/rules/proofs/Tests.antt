@@ -81,6 +81,10 @@ pub cond-no : {A : Type 0} (b : Bool) (u v : A) → T (not b) → cond b u v ≡
 cond-no true u v h = absurd h
 cond-no false u v h = refl
 
+pub by-cond : {A : Type 0} (P : A → Type 0) (b : Bool) (u v : A) → (T b → P u) → (T (not b) → P v) → P (cond b u v)
+by-cond P true u v f g = f tt
+by-cond P false u v f g = g tt
+
 pub one-yes : (b : Bool) → T b → oneIf b ≡ 1
 unfolding oneIf
 one-yes true h = refl

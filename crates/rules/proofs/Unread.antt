@@ -27,7 +27,7 @@ use Rattle.rules.specs.declared.Player.{Player}
 use Rattle.rules.specs.declared.Verdict.{Verdict}
 use Rattle.rules.specs.declared.Verdict.the-variants.{BadHeader, BadLine, OffBoard, TooManyNodes, TooDeep, Unfinished, TextAfter}
 use Rattle.rules.proofs.Lists.{nothing-in, not-nil}
-use Rattle.rules.proofs.Steps.{none≢some, some-inj, not-refused, got-inj}
+use Rattle.rules.proofs.Steps.{none≢some, some-inj, not-refused, got-inj, refused-inj}
 use Rattle.rules.proofs.Lines.{header-is, header-back, set-up-is, set-up-back, LineRead, line-is, line-back}
 use Rattle.rules.proofs.SetUp.{stoneOf, down, down-off, down-twice, Downed, is-down, is-off, is-twice, downed, set-up-refused, set-up-got, set-up-none, longer-set-up}
 use Rattle.rules.proofs.NodeLine.{LineBegins, LineSeen, sees-end, sees-many, sees-bad, sees-deep, sees-off, sees-line, seen-is, line-seen}
@@ -51,9 +51,6 @@ data Runs (b : Board) : List Due → Spot → Option Verdict → Type 0 where
       → Runs b (d ∷ ds) s r
 
 -- it comes to one thing
-refused-inj : {X : Type 0} {v w : Verdict} → _≡_ {A = Result X} (refused v) (refused w) → v ≡ w
-refused-inj e = cc
-
 runs-one : (b : Board) {ds : List Due} {s : Spot} {r q : Option Verdict} → Runs b ds s r → Runs b ds s q → r ≡ q
 runs-one b (finishes s e) (finishes _ f) = refl
 runs-one b (finishes s e) (remains _ c t f) = let z : [] ≡ c ∷ t = sym e ∙ f in cc

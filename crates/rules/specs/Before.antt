@@ -6,21 +6,22 @@ use mathlib.Core.List.{[], _++_, map}
 use mathlib.Core.Option.{Option, none, some}
 use lib.Dec.{ltb}
 use lib.ListN.{length}
-use Rattle.rules.specs.Sizes.{mostBytes, leastWorkspace, mostOutcomes}
+use Rattle.rules.specs.Sizes.{mostBytes, leastWorkspace}
 use Rattle.rules.specs.Text.{Bytes}
 use Rattle.rules.specs.Lines.{Header, headerLine}
 use Rattle.rules.specs.Tree.{Sheet, stone}
 use Rattle.rules.specs.Written.{writtenHeader}
 use Rattle.rules.specs.Reading.{Result, refused, got, readTree}
 use Rattle.rules.specs.Unread.{BoardSize, NoSetUp}
-use Rattle.rules.specs.Fair.{firstNotApart, firstTwice, firstNotElusive}
+use Rattle.rules.specs.Fair.{firstTwice}
+use Rattle.rules.specs.Live.{living}
 use Rattle.rules.specs.Outcomes.{outcomesOfWaits, outcomes, outcomeCount}
 use Rattle.rules.specs.Answering.{Game, start, mine}
-use Rattle.rules.specs.Entries.{_>>=_, refuseIf, refuseFault, fair}
+use Rattle.rules.specs.Entries.{_>>=_, refuseIf, fairBy, fair}
 use Rattle.rules.specs.SameReplies.{SameReplies}
 use Rattle.rules.specs.declared.Board.{Board}
 use Rattle.rules.specs.declared.Player.{Player}
-use Rattle.rules.specs.declared.Verdict.the-variants.{SmallWorkspace, LongText, BadHeader, NotApart, NotElusive, TooManyOutcomes, SameBranch}
+use Rattle.rules.specs.declared.Verdict.the-variants.{SmallWorkspace, LongText, BadHeader}
 
 -- no set-up line stands after line 1
 pub record WithoutSetUp (t : Bytes) : Type 0 where
@@ -37,19 +38,14 @@ readBefore w t = do
   _ ← refuseIf (ltb mostBytes (length t)) LongText
   headedBefore (headerLine t)
 
--- then came 10 and the checks after it; there was no 20. (24 is C-20's, and asks nothing of set-up stones)
+-- then came 10 and the checks after it; there was no 20. (24 is C-20's, and the live moves are C-16's: they ask nothing of set-up stones)
 unfoldable pub fairBefore : Sheet → Result Sheet
-fairBefore s = do
-  _ ← refuseFault NotApart (firstNotApart s)
-  _ ← refuseFault (λ line cell. SameBranch line) (firstTwice s)
-  _ ← refuseFault NotElusive (firstNotElusive s)
-  _ ← refuseIf (ltb mostOutcomes (outcomeCount s)) TooManyOutcomes
-  got s
+fairBefore s = fairBy none (firstTwice s) (outcomeCount s) s
 
 -- on the sheet all is as it was: an outcome was the root's, the game began with the root's stone alone, and so did the player's stones
 pub record AsBefore (s : Sheet) : Type 0 where
   pub fair-is : fair s ≡ fairBefore s
-  pub outcomes-are : outcomes s ≡ map (λ o. stone (s .root .cell) ++ o) (outcomesOfWaits (s .root .waits))
+  pub outcomes-are : outcomes s ≡ map (λ o. stone (s .root .cell) ++ o) (outcomesOfWaits (living (s .root .waits)))
   pub start-is : start s ≡ record { answers = []; theirs = []; open-waits = s .root .waits }
   pub mine-are : (g : Game) → mine s g ≡ stone (s .root .cell) ++ g .answers
 

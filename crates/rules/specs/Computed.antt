@@ -15,13 +15,15 @@ use Rattle.rules.specs.Tree.{asWaits, asMoves, stone, setUpCells, cellsO
 use Rattle.rules.specs.Reading.{go, give as give·Reading, within, cellOf, refuseHere, lineHere, nodeHere, thisSpot, isNothing, nodeLine, inTurn, ended, setDown, readSetUp, readTree, planted, readBody, headed, readSheetUpTo, readSheet, readMove, readWait, got, refused}
 use Rattle.rules.specs.Written.{howManyWaits, howManyMoves}
 use Rattle.rules.specs.Fair.{inMove, holding, inEvery, notApart, notElusive, onSetUp, linesUnderMove, linesUnderWait, branch, branches, faultAt, firstFault, twiceAt, firstOnSetUp, firstNotApart, firstTwice, firstNotElusive, inWaits, inMoves}
+use Rattle.rules.specs.Live.{cellsOfWaits, cellsOfMoves, andThis, isLive, living, livingAfter, idleInWaits, idleAfter, idleCount}
 use Rattle.rules.specs.Outcomes.{eachWithEach, outcomes, outcomeCount, outcomesOfWaits, outcomesOfMoves, countOfWaits, countOfMoves}
 use Rattle.rules.specs.Choice.{the-first, one-later}
 use Rattle.rules.specs.Answering.{smallestLine, firstLine, touchedAnswer, freeAnswer, answer, start, mine, isOver, isTaken, isEmpty, next, answeredBy, answered}
 use Rattle.rules.specs.Entries.{_>>=_, refuseIf, refuseFault, refuseUnjoined, readTextUpTo, readUpTo, fair, satisfying, accepted, counts, judged, judge, step, rounds, refusedPlay, playedOut, playOn, play, outcomeCells, named, outcome, workspaceAfter, roomAfter, playShown, outcomeShown}
-use Rattle.rules.specs.Holder.{allowed}
+use Rattle.rules.specs.Holder.{liveThere, liveChoice, allowed}
+use Rattle.rules.specs.Spare.{acceptedOverAll}
 use Rattle.rules.specs.declared.Verdict.the-variants.{NoSuchCell}
-use Rattle.rules.specs.Samples.{byteOf, sheet, toldOf, reply, P1, P3, p1, p3, large, stones, onStones, table, traps, replies, expected}
+use Rattle.rules.specs.Samples.{byteOf, sheet, toldOf, countsOf, reply, P1, P3, p1, p3, large, stones, onStones, spare, onSpare, table, traps, replies, expected}
 
 -- in P1 the opponent may begin with 3, and the holder may answer 4
 abbrev Opens : Type 0
@@ -31,6 +33,13 @@ Opens = T (not (isOver p1 (start p1))) × T (isEmpty p1 (start p1) 3) × T (allo
 abbrev StonesOpen : Type 0
 StonesOpen = T (not (isOver onStones (start onStones))) × T (isEmpty onStones (start onStones) 3)
 
+-- a sheet with a spare branch is accepted, and was before; the opponent may begin with 4, and the rule answers 5
+abbrev SpareTaken : Type 0
+SpareTaken = (accepted leastWorkspace (sheet spare) ≡ got onSpare) × (acceptedOverAll leastWorkspace (sheet spare) ≡ got onSpare)
+
+abbrev SpareAnswer : Type 0
+SpareAnswer = answer 4 (onSpare .root .waits) ≡ some (the-first (one-later (the-first tt)))
+
 -- on 19 by 19 the opponent may move to 361, the answer is 1, and 362 is no cell
 abbrev LastCell : Type 0
 LastCell = (step large (start large) 361 ≡ got (answered (start large) 361)) × (answered (start large) 361 .answers ≡ 1 ∷ []) × (step large (start large) 362 ≡ refused NoSuchCell)
@@ -38,8 +47,9 @@ LastCell = (step large (start large) 361 ≡ got (answered (start large) 361)) �
 computed : (replies table ≡ expected table) × (replies traps ≡ expected traps) × (accepted leastWorkspace (sheet P1) ≡ got p1) × Opens × (readSheet (sheet P3) ≡ got p3)
     × (headerLine (sheet P1) ≡ some (record { board = p1 .board; player = p1 .player }, sheet "m b1 1/w 2/m a2 0/m b2 0/"))
     × LastCell × (accepted leastWorkspace (sheet stones) ≡ got onStones) × StonesOpen
-unfolding among keep any firstSome same twice upTo firstOrNone oneIf onBoard cellAt cells isCell columnOf rowOf there around neighbours onFirstSide onLastSide listed smallest touches grow reachedIn joined bind give guard _orElse_ anyByte byte word tab lineFeed isDigit digits afterDigits spelled wellSpelled number numberIn player headerUpTo letter place isSide side setUpLine moveLine dashLine waitLine asWaits asMoves stone setUpCells cellsOf atStart everyMove everyWait moveCount waitCount movesOfWaits movesOfMoves waitsOfWaits waitsOfMoves go give·Reading within cellOf refuseHere lineHere nodeHere thisSpot isNothing nodeLine inTurn ended setDown readSetUp readTree planted readBody headed readSheetUpTo readMove readWait inMove holding inEvery notApart notElusive onSetUp howManyWaits howManyMoves linesUnderMove linesUnderWait branch branches faultAt firstFault twiceAt firstOnSetUp firstNotApart firstTwice firstNotElusive inWaits inMoves eachWithEach outcomes outcomeCount outcomesOfWaits outcomesOfMoves countOfWaits countOfMoves allowed smallestLine firstLine touchedAnswer freeAnswer answer start mine isOver isTaken isEmpty next answeredBy answered _>>=_ refuseIf refuseFault refuseUnjoined readUpTo readTextUpTo fair satisfying accepted counts judged judge step rounds refusedPlay playedOut playOn play outcomeCells named outcome workspaceAfter roomAfter playShown outcomeShown byteOf sheet toldOf reply table traps replies expected
-computed = (refl, refl, refl, (tt, tt, tt), refl, refl, (refl, refl, refl), refl, (tt, tt))
+    × SpareTaken × SpareAnswer
+unfolding among keep any firstSome same twice upTo firstOrNone oneIf onBoard cellAt cells isCell columnOf rowOf there around neighbours onFirstSide onLastSide listed smallest touches grow reachedIn joined bind give guard _orElse_ anyByte byte word tab lineFeed isDigit digits afterDigits spelled wellSpelled number numberIn player headerUpTo letter place isSide side setUpLine moveLine dashLine waitLine asWaits asMoves stone setUpCells cellsOf atStart everyMove everyWait moveCount waitCount movesOfWaits movesOfMoves waitsOfWaits waitsOfMoves go give·Reading within cellOf refuseHere lineHere nodeHere thisSpot isNothing nodeLine inTurn ended setDown readSetUp readTree planted readBody headed readSheetUpTo readMove readWait inMove holding inEvery notApart notElusive onSetUp howManyWaits howManyMoves linesUnderMove linesUnderWait branch branches faultAt firstFault twiceAt firstOnSetUp firstNotApart firstTwice firstNotElusive inWaits inMoves cellsOfWaits cellsOfMoves andThis isLive living livingAfter idleInWaits idleAfter idleCount eachWithEach outcomes outcomeCount outcomesOfWaits outcomesOfMoves countOfWaits countOfMoves liveThere liveChoice allowed smallestLine firstLine touchedAnswer freeAnswer answer start mine isOver isTaken isEmpty next answeredBy answered _>>=_ refuseIf refuseFault refuseUnjoined readUpTo readTextUpTo fair satisfying accepted counts judged judge step rounds refusedPlay playedOut playOn play outcomeCells named outcome acceptedOverAll workspaceAfter roomAfter playShown outcomeShown byteOf sheet toldOf countsOf reply table traps replies expected
+computed = (refl, refl, refl, (tt, tt, tt), refl, refl, (refl, refl, refl), refl, (tt, tt), (refl, refl), refl)
 
 pub samples : replies table ≡ expected table
 samples = computed .0
@@ -70,3 +80,9 @@ stones-accepted = computed .7
 
 pub stones-open : StonesOpen
 stones-open = computed .8
+
+pub spare-taken : SpareTaken
+spare-taken = computed .9
+
+pub spare-answers : SpareAnswer
+spare-answers = computed .10

@@ -14,6 +14,7 @@ use Rattle.rules.specs.Joining.{joined}
 use Rattle.rules.specs.Tree.{Sheet, moveCount, waitCount}
 use Rattle.rules.specs.Reading.{Result, refused, got, readSheetUpTo}
 use Rattle.rules.specs.Fair.{Fault, firstOnSetUp, firstNotApart, firstTwice, firstNotElusive}
+use Rattle.rules.specs.Live.{idleCount}
 use Rattle.rules.specs.Outcomes.{outcomes, outcomeCount}
 use Rattle.rules.specs.Answering.{Game, start, isOver, isTaken, answered}
 use Rattle.rules.specs.declared.Board.{Board}
@@ -63,21 +64,28 @@ readUpTo most w t = do
 abbrev pub read : (workspace : ℕ) → Bytes → Result Sheet
 read w t = readUpTo largest w t
 
--- then 20, 10, 24, 11, 12, each over the whole tree; 24 has no cell
-unfoldable pub fair : Sheet → Result Sheet
-fair s = do
-  _ ← refuseFault OnSetUp (firstOnSetUp s)
+-- then 20, 10, 24, 11, 12, by what is on a set-up stone, what stands twice, and the number of outcomes; 24 has no cell
+abbrev pub fairBy : (on-set-up stands-twice : Option Fault) → (many : ℕ) → Sheet → Result Sheet
+fairBy on-set-up stands-twice many s = do
+  _ ← refuseFault OnSetUp on-set-up
   _ ← refuseFault NotApart (firstNotApart s)
-  _ ← refuseFault (λ line cell. SameBranch line) (firstTwice s)
+  _ ← refuseFault (λ line cell. SameBranch line) stands-twice
   _ ← refuseFault NotElusive (firstNotElusive s)
-  _ ← refuseIf (ltb mostOutcomes (outcomeCount s)) TooManyOutcomes
+  _ ← refuseIf (ltb mostOutcomes many) TooManyOutcomes
   got s
 
+-- each over the whole tree, but for 12
+unfoldable pub fair : Sheet → Result Sheet
+fair s = fairBy (firstOnSetUp s) (firstTwice s) (outcomeCount s) s
+
 -- then 13: a sheet is satisfying when the cells of every outcome of the root join for the named player
-unfoldable pub satisfying : Sheet → Result Sheet
-satisfying s = do
-  _ ← refuseUnjoined (s .board) (s .player) 0 (outcomes s)
+abbrev pub satisfyingBy : List (List ℕ) → Sheet → Result Sheet
+satisfyingBy os s = do
+  _ ← refuseUnjoined (s .board) (s .player) 0 os
   got s
+
+unfoldable pub satisfying : Sheet → Result Sheet
+satisfying s = satisfyingBy (outcomes s) s
 
 -- the sheet that is accepted by checks that come before 13, of what was read, or the refusal; judge's checks are `fair`
 abbrev pub acceptedBy : (checks : Sheet → Result Sheet) → Result Sheet → Result Sheet
@@ -89,9 +97,9 @@ acceptedBy checks r = do
 unfoldable pub accepted : (workspace : ℕ) → Bytes → Result Sheet
 accepted w t = acceptedBy fair (read w t)
 
--- the counts of a sheet that judge accepts: moves, waits and outcomes
+-- the counts of a sheet that judge accepts: moves, waits, outcomes, and (document 02, C-16) how many of the moves aren't live
 unfoldable pub counts : Sheet → Counts
-counts s = record { moves = moveCount s; waits = waitCount s; outcomes = outcomeCount s }
+counts s = record { moves = moveCount s; waits = waitCount s; outcomes = outcomeCount s; idle = idleCount s }
 
 -- Judge takes a sheet and answers a verdict; it also returns the counts
 unfoldable pub judged : Result Sheet → Verdict

@@ -3,13 +3,14 @@ use mathlib.Core.Path.{_≡_}
 use mathlib.Core.Logic.{_≢_}
 use Prim.Native.Nat.{ℕ, suc, _≤_, _<_}
 use mathlib.Core.Bool.{Bool, not, _&&_, _||_}
-use mathlib.Core.Option.{some}
+use mathlib.Core.Option.{none, some}
 use lib.Dec.{T}
 use Rattle.rules.specs.Text.{Bytes}
-use Rattle.rules.specs.Tree.{Waits, noWaits, wait, Sheet, waitCount}
+use Rattle.rules.specs.Tree.{Waits, noWaits, wait, Moves, noMoves, move, Sheet, waitCount}
 use Rattle.rules.specs.Reading.{got}
 use Rattle.rules.specs.Fair.{inWaits, inMoves, inMove, holding}
-use Rattle.rules.specs.Choice.{cellThere, waitsThere, Choice, the-first, one-later, taken}
+use Rattle.rules.specs.Live.{Shared, andThis, isLive}
+use Rattle.rules.specs.Choice.{PlaceIn, cellThere, waitsThere, Choice, the-first, one-later, taken}
 use Rattle.rules.specs.Answering.{Game, answer, start, isOver, isEmpty, next}
 use Rattle.rules.specs.Entries.{accepted}
 
@@ -24,9 +25,20 @@ moveHolds x noWaits k = absurd k
 moveHolds x (wait line ms ws) (the-first p) = inMove (cellThere ms p) (waitsThere ms p) x
 moveHolds x (wait line ms ws) (one-later k) = moveHolds x ws k
 
--- What the holder may answer to x: a move that does not hold x, under the open wait that holds x or, where none does, under any
+-- the move at the place is live, given the moves before these; and so is the chosen move
+unfoldable pub liveThere : Shared → (ms : Moves) → PlaceIn ms → Bool
+liveThere before noMoves p = absurd p
+liveThere before (move line c ws ms) (the-first u) = isLive before c ws
+liveThere before (move line c ws ms) (one-later p) = liveThere (andThis before c ws) ms p
+
+unfoldable pub liveChoice : (ws : Waits) → Choice ws → Bool
+liveChoice noWaits k = absurd k
+liveChoice (wait line ms ws) (the-first p) = liveThere none ms p
+liveChoice (wait line ms ws) (one-later k) = liveChoice ws k
+
+-- What the holder may answer to x: a live move that does not hold x, under the open wait that holds x or, where none does, under any
 unfoldable pub allowed : ℕ → (ws : Waits) → Choice ws → Bool
-allowed x ws k = not (moveHolds x ws k) && (waitHolds x ws k || not (inWaits ws x))
+allowed x ws k = liveChoice ws k && (not (moveHolds x ws k) && (waitHolds x ws k || not (inWaits ws x)))
 
 -- Games of n rounds from g to h in which the holder takes any allowed move: each opponent move is made before the sides are
 -- joined, on a cell empty at that moment

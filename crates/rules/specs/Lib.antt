@@ -11,6 +11,7 @@ pub mod Verdict
 pub mod Reading
 pub mod Unread
 pub mod Fair
+pub mod Live
 pub mod Outcomes
 pub mod Choice
 pub mod Answering
@@ -22,6 +23,7 @@ pub mod Before
 pub mod Once
 pub mod Promise
 pub mod Holder
+pub mod Spare
 pub mod GoesOn
 pub mod Samples
 pub mod Computed

@@ -2,6 +2,7 @@
 use Prim.Native.Nat.{ℕ, _+_, _*_}
 use mathlib.Core.List.{List, [], _∷_, _++_, map}
 use Rattle.rules.specs.Tree.{Waits, noWaits, wait, Moves, noMoves, move, Sheet, stone, atStart}
+use Rattle.rules.specs.Live.{living}
 
 -- each of the first list with each of the second, the second varying fastest
 unfoldable pub eachWithEach : List (List ℕ) → List (List ℕ) → List (List ℕ)
@@ -30,9 +31,12 @@ unfoldable mutual
   countOfMoves noMoves = 0
   countOfMoves (move line c ws ms) = countOfWaits ws + countOfMoves ms
 
--- of the sheet: the own set-up stones with an outcome of the root
+-- of the sheet: the own set-up stones with an outcome of the root. (Document 02, C-16: over live moves only)
+abbrev pub outcomesFrom : Sheet → Waits → List (List ℕ)
+outcomesFrom s ws = map (λ o. atStart s ++ o) (outcomesOfWaits ws)
+
 unfoldable pub outcomes : Sheet → List (List ℕ)
-outcomes s = map (λ o. atStart s ++ o) (outcomesOfWaits (s .root .waits))
+outcomes s = outcomesFrom s (living (s .root .waits))
 
 unfoldable pub outcomeCount : Sheet → ℕ
-outcomeCount s = countOfWaits (s .root .waits)
+outcomeCount s = countOfWaits (living (s .root .waits))

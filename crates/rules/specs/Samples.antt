@@ -24,16 +24,21 @@ sheet (S._∷_ c s) = byteOf (code c) ∷ sheet s
 
 pub data Request : Type 0 where
   judging : S.String → Request
+  counting : S.String → Request
   playing : S.String → List ℕ → Request
   naming : S.String → ℕ → Request
 
--- of judge: number, line, cell, index, moves, waits, outcomes; of play: number, place, 1 where play is over, the answers; of outcome:
--- number, the cells
+-- of judge: number, line, cell, index, moves, waits, outcomes; or number, moves, waits, outcomes, how many moves aren't live; of play:
+-- number, place, 1 where play is over, the answers; of outcome: number, the cells
 unfoldable pub toldOf : Told → List ℕ
 toldOf v = v .number ∷ v .line ∷ v .cell ∷ v .index ∷ v .counts .moves ∷ v .counts .waits ∷ v .counts .outcomes ∷ []
 
+unfoldable pub countsOf : Told → List ℕ
+countsOf v = v .number ∷ v .counts .moves ∷ v .counts .waits ∷ v .counts .outcomes ∷ v .counts .idle ∷ []
+
 unfoldable pub reply : Request → List ℕ
 reply (judging s) = toldOf (told (judge leastWorkspace (sheet s)))
+reply (counting s) = countsOf (told (judge leastWorkspace (sheet s)))
 reply (playing s xs) =
     let r = play leastWorkspace (sheet s) xs 100 in
     (told (r .verdict)) .number ∷ r .place ∷ oneIf (r .over) ∷ r .answers
@@ -116,7 +121,33 @@ joinedStones = "hex 2 2 D/own b1/own b2/m - 0/"
 abbrev twins : S.String
 twins = "hex 2 2 D/m b1 1/w 2/m a2 0/m a2 0/"
 
--- "Traps for the setter's tool", the sentences of the paper that P1 to P12 do not pin, and those of follow-ups C-11 and C-20
+-- a spare branch: b1 and a2 or b2 join, so c1 is never answered; and the sheet that it writes
+abbrev pub spare : S.String
+spare = "hex 3 2 D/m b1 1/w 3/m a2 0/m b2 0/m c1 1/w 2/m a2 0/m b2 0/"
+
+abbrev pub onSpare : Sheet
+onSpare =
+    record {
+      board = record { columns = 3; rows = 2 };
+      player = D;
+      set-up = [];
+      root =
+          record {
+            line = 2;
+            cell = 2;
+            waits = wait 3 (move 4 4 noWaits (move 5 5 noWaits (move 6 3 (wait 7 (move 8 4 noWaits (move 9 5 noWaits noMoves)) noWaits) noMoves))) noWaits;
+          };
+    }
+
+-- the second move has all cells of the first, the third has not: the second isn't live and the third is
+abbrev liveAgain : S.String
+liveAgain = "hex 3 2 D/m b1 1/w 3/m a2 1/w 2/m a1 0/m c1 0/m c1 1/w 2/m a2 0/m a1 0/m b2 0/"
+
+-- under a move that isn't live a wait has two live moves and one that isn't
+abbrev spareUnderSpare : S.String
+spareUnderSpare = "hex 3 2 D/m b1 1/w 3/m a2 0/m b2 0/m a1 1/w 3/m c1 0/m c2 0/m b2 0/"
+
+-- "Traps for the setter's tool", the sentences of the paper that P1 to P12 do not pin, and those of follow-ups C-11, C-20 and C-16
 unfoldable pub traps : List Row
 traps =
     row "the first and the third wait share a cell" (judging "hex 3 3 D/m b2 3/w 2/m a1 0/m b1 0/w 2/m a2 0/m c2 0/w 2/m a1 0/m c3 0/") (10 ∷ 2 ∷ 1 ∷ 0 ∷ 0 ∷ 0 ∷ 0 ∷ [])
@@ -175,6 +206,17 @@ traps =
     ∷ row "no 24: another cell on the last line" (judging "hex 3 3 D/m b2 1/w 3/m b1 1/w 2/m a1 0/m a2 0/m b1 1/w 2/m a1 0/m a3 0/m c1 0/") (13 ∷ 0 ∷ 0 ∷ 0 ∷ 0 ∷ 0 ∷ 0 ∷ [])
     ∷ row "no 24: another count" (judging "hex 3 3 D/m b2 1/w 3/m b1 1/w 2/m a1 0/m a2 0/m b1 0/m c1 0/") (13 ∷ 0 ∷ 0 ∷ 0 ∷ 0 ∷ 0 ∷ 0 ∷ [])
     ∷ row "no 24: another order" (judging "hex 3 3 D/m b2 1/w 3/m b1 1/w 2/m a1 0/m a2 0/m b1 1/w 2/m a2 0/m a1 0/m c1 0/") (13 ∷ 0 ∷ 0 ∷ 0 ∷ 0 ∷ 0 ∷ 0 ∷ [])
+    ∷ row "every move live" (counting P8) (0 ∷ 7 ∷ 3 ∷ 8 ∷ 0 ∷ [])
+    ∷ row "a spare branch has no outcome; its moves and waits count" (counting spare) (0 ∷ 6 ∷ 2 ∷ 2 ∷ 1 ∷ [])
+    ∷ row "a spare branch that does not join, which was 13" (counting "hex 2 2 D/m b1 1/w 3/m a2 0/m b2 0/m a1 0/") (0 ∷ 4 ∷ 1 ∷ 2 ∷ 1 ∷ [])
+    ∷ row "not live under not live counts too, live under it does not" (counting spareUnderSpare) (0 ∷ 7 ∷ 2 ∷ 2 ∷ 2 ∷ [])
+    ∷ row "not live by cells deep in the branch, and live after it" (counting liveAgain) (0 ∷ 8 ∷ 3 ∷ 3 ∷ 1 ∷ [])
+    ∷ row "the next live move has the next number" (naming liveAgain 2) (0 ∷ 2 ∷ 5 ∷ [])
+    ∷ row "18: no more outcomes of live moves" (naming liveAgain 3) (18 ∷ [])
+    ∷ row "13: the index counts live moves only" (judging "hex 3 2 D/m b1 1/w 3/m a2 1/w 2/m a1 0/m c1 0/m c1 1/w 2/m a2 0/m a1 0/m c2 0/") (13 ∷ 0 ∷ 0 ∷ 2 ∷ 0 ∷ 0 ∷ 0 ∷ [])
+    ∷ row "0 on a refusal" (counting "hex 2 2 D/m a1 1/w 3/m a2 0/m b2 0/m b1 0/") (13 ∷ 0 ∷ 0 ∷ 0 ∷ 0 ∷ [])
+    ∷ row "10: a spare branch's cells are its node's" (judging "hex 3 2 D/m b1 2/w 2/m a1 0/m c2 0/w 3/m a2 0/m b2 0/m a1 0/") (10 ∷ 2 ∷ 1 ∷ 0 ∷ 0 ∷ 0 ∷ 0 ∷ [])
+    ∷ row "a cell of a spare branch touches its wait" (playing "hex 3 2 D/m b1 2/w 2/m c1 0/m c2 0/w 3/m a2 0/m b2 0/m a1 0/" (1 ∷ [])) (0 ∷ 0 ∷ 1 ∷ 4 ∷ [])
     ∷ []
 
 unfoldable pub replies : List Row → List (List ℕ)

@@ -25,6 +25,7 @@ pub struct Counts {
     pub moves: u32,
     pub waits: u32,
     pub outcomes: u32,
+    pub idle: u32,
 }
 
 // The verdict is one value with a case for each kind of reply and its details.
