@@ -1,12 +1,12 @@
 -- The binary digits of a number under `|`, `&`, the shifts and a remainder.
 use mathlib.Core.Path.{_≡_, refl, sym, ap, _∙_}
-use mathlib.Core.Logic.{_⊎_, inl, inr}
+use mathlib.Core.Logic.{_≢_, _⊎_, inl, inr}
 use Prim.Native.Nat.{ℕ, zero, suc, _+_, _-_, _*_, _/_, _%_, _^_, _<_, min, max}
 use native.Mathlib.Nat.{one-mul, pow-suc, div-eq-of-lt, lt-of-lt-of-le, not-suc-le-zero}
 use native.Mathlib.Numerals.{one-add}
 use native.Mathlib.Decide.{ℕ-discrete, decLt}
 use native.Mathlib.Omega.{arith}
-use lib.Bits.{bitAnd, bitOr, and-step, or-step, and-shr, or-shr}
+use lib.Bits.{bitAnd, bitOr, bitXor, and-step, or-step, and-shr, or-shr, xor-shr, xor-add-and}
 use lib.Dec.{lit<}
 use lib.Pow.{shl-exact, shr-shr, field, mod-mod-pow, pow-mono}
 use Rattle.cells.specs.Cells.{digit}
@@ -23,11 +23,17 @@ or-odd a b = omega (arith, or-step a b)
 and-odd : (a b : ℕ) → bitAnd a b % 2 ≡ min (a % 2) (b % 2)
 and-odd a b = omega (arith, and-step a b)
 
+xor-odd : (a b : ℕ) → bitXor a b % 2 ≡ (a % 2 + b % 2) % 2
+xor-odd a b = omega (arith, xor-add-and a b)
+
 digit-or : (a b k : ℕ) → digit (bitOr a b) k ≡ max (digit a k) (digit b k)
 digit-or a b k = ap (λ (x : ℕ). x % 2) (or-shr a b k) ∙ or-odd (a / 2 ^ k) (b / 2 ^ k)
 
 digit-and : (a b k : ℕ) → digit (bitAnd a b) k ≡ min (digit a k) (digit b k)
 digit-and a b k = ap (λ (x : ℕ). x % 2) (and-shr a b k) ∙ and-odd (a / 2 ^ k) (b / 2 ^ k)
+
+digit-xor : (a b k : ℕ) → digit (bitXor a b) k ≡ (digit a k + digit b k) % 2
+digit-xor a b k = ap (λ (x : ℕ). x % 2) (xor-shr a b k) ∙ xor-odd (a / 2 ^ k) (b / 2 ^ k)
 
 module _ (a b k : ℕ) where
   pub or-l : digit a k ≡ 1 → digit (bitOr a b) k ≡ 1
@@ -51,6 +57,18 @@ module _ (a b k : ℕ) where
 
   pub and-r : digit (bitAnd a b) k ≡ 1 → digit b k ≡ 1
   and-r h = omega (arith, digit-and a b k)
+
+-- ---- what one number has and the other has not
+
+module _ (a b k : ℕ) where
+  pub beyond-in : digit a k ≡ 1 → digit b k ≢ 1 → digit (bitXor a (bitAnd a b)) k ≡ 1
+  beyond-in h g = omega (arith, digit-xor a (bitAnd a b) k, digit-and a b k)
+
+  pub beyond-l : digit (bitXor a (bitAnd a b)) k ≡ 1 → digit a k ≡ 1
+  beyond-l h = omega (arith, digit-xor a (bitAnd a b) k, digit-and a b k)
+
+  pub beyond-r : digit (bitXor a (bitAnd a b)) k ≡ 1 → digit b k ≢ 1
+  beyond-r h g = omega (arith, digit-xor a (bitAnd a b) k, digit-and a b k)
 
 -- ---- the shifts by one
 

@@ -1,14 +1,16 @@
 -- What the parts of the code do to the row words.
-use mathlib.Core.Bool.{Bool, true, false}
+use mathlib.Core.Bool.{Bool}
 use mathlib.Core.List.{List, [], _∷_}
 use mathlib.Core.Path.{_≡_}
 use Prim.Native.Nat.{ℕ, zero, suc, _≤_}
-use lib.Bits.{bitAnd, bitOr}
+use lib.Bits.{bitAnd, bitOr, bitXor}
 use lib.ListN.{getD}
 use lib.Dec.{T}
 use Rattle.rules.specs.Board.{On, isCell, columnOf, rowOf}
 use Rattle.rules.specs.declared.Board.{Board}
 use Rattle.cells.specs.Cells.{digit}
+use Rattle.cells.specs.declared.Way.{Way}
+use Rattle.cells.specs.declared.Way.the-variants.{Either, Both, Beyond}
 
 -- digit c of word r is set
 abbrev pub In : List ℕ → ℕ → ℕ → Type 0
@@ -20,13 +22,14 @@ fill f zero a = a
 fill f (suc n) [] = []
 fill f (suc n) (x ∷ a) = f zero ∷ fill (λ k. f (suc k)) n a
 
--- the cells of either of two rows, or of both
-abbrev pub mergedRow : Bool → ℕ → ℕ → ℕ
-mergedRow true a b = bitOr a b
-mergedRow false a b = bitAnd a b
+-- the cells of either of two rows, of both, or of the first and not the second
+abbrev pub mergedRow : Way → ℕ → ℕ → ℕ
+mergedRow Either a b = bitOr a b
+mergedRow Both a b = bitAnd a b
+mergedRow Beyond a b = bitXor a (bitAnd a b)
 
-abbrev pub mergedRows : Bool → List ℕ → List ℕ → List ℕ
-mergedRows either s t = fill (λ k. mergedRow either (getD s k 0) (getD t k 0)) 21 s
+abbrev pub mergedRows : Way → List ℕ → List ℕ → List ℕ
+mergedRows way s t = fill (λ k. mergedRow way (getD s k 0) (getD t k 0)) 21 s
 
 -- column c and row r are those of the cell x, and stand inside the words
 pub record PlaceOf (b : Board) (x c r : ℕ) : Type 0 where

@@ -2,7 +2,7 @@
 // each row, bit c of word r for the cell at column c, row r, both from 1; the words have an empty border on every side of a
 // board of up to 19 by 19. It sees rules.
 ghost use mathlib.Core.Path.{_≡_};
-ghost use mathlib.Core.Bool.{true, false, _&&_, _||_};
+ghost use mathlib.Core.Bool.{true, false, not, _&&_, _||_};
 ghost use mathlib.Core.List.{List};
 ghost use Prim.Native.Nat.{ℕ, _≤_};
 ghost use lib.Dec.{T, eqb};
@@ -48,22 +48,33 @@ fn placed(board: Board, cell: usize) -> Place
     }
 }
 
-// The words of either set, or those of both, row by row.
-fn merged(a: Cells, b: Cells, either: bool) -> Cells
-    ensures { λ r. ⌜ r .rows ≡ mergedRows either (a .rows) (b .rows) ⌝ }
+// Which cells of two sets are taken: those of either, those of both, or those of the first that are not in the second.
+enum Way {
+    Either,
+    Both,
+    Beyond,
+}
+
+// The words of two sets, merged row by row.
+fn merged(a: Cells, b: Cells, way: Way) -> Cells
+    ensures { λ r. ⌜ r .rows ≡ mergedRows way (a .rows) (b .rows) ⌝ }
 {
     let mut out = a;
     for i in 0..21 {
-        out.rows[i] = merged_row(out.rows[i], b.rows[i], either);
+        out.rows[i] = merged_row(out.rows[i], b.rows[i], way);
     }
     out
 }
 
 // One row of that.
-fn merged_row(a: u32, b: u32, either: bool) -> u32
-    ensures { λ r. ⌜ r ≡ mergedRow either a b ⌝ }
+fn merged_row(a: u32, b: u32, way: Way) -> u32
+    ensures { λ r. ⌜ r ≡ mergedRow way a b ⌝ }
 {
-    if either { a | b } else { a & b }
+    match way {
+        Way::Either => a | b,
+        Way::Both => a & b,
+        Way::Beyond => a ^ (a & b),
+    }
 }
 
 // The places from column left to column right, in the rows from top to bottom.
@@ -84,7 +95,7 @@ fn clipped(set: Cells, board: Board) -> Cells
     requires { ⌜ Fits board ⌝ }
     ensures { λ r. ⌜ Clipped board (set .rows) (r .rows) ⌝ }
 {
-    merged(set, block(1, board.columns, 1, board.rows), false)
+    merged(set, block(1, board.columns, 1, board.rows), Way::Both)
 }
 
 // A row with those of the row's cells that touch it, or the rows above and below.
@@ -190,14 +201,21 @@ impl Cells {
     pub fn union(self, other: Cells) -> Self
         ensures { λ r. ⌜ ((b : declared.Board) (x : ℕ) → held b (r .rows) x ≡ (held b (self .rows) x || held b (other .rows) x)) ⌝ }
     {
-        merged(self, other, true)
+        merged(self, other, Way::Either)
     }
 
     // The cells of one set and the other.
     pub fn meet(self, other: Cells) -> Self
         ensures { λ r. ⌜ ((b : declared.Board) (x : ℕ) → held b (r .rows) x ≡ (held b (self .rows) x && held b (other .rows) x)) ⌝ }
     {
-        merged(self, other, false)
+        merged(self, other, Way::Both)
+    }
+
+    // The cells of one set that are not in the other.
+    pub fn beyond(self, other: Cells) -> Self
+        ensures { λ r. ⌜ ((b : declared.Board) (x : ℕ) → held b (r .rows) x ≡ (held b (self .rows) x && not (held b (other .rows) x))) ⌝ }
+    {
+        merged(self, other, Way::Beyond)
     }
 
     // The smallest cell of the board in the set; 0 where there is none.
@@ -214,9 +232,9 @@ impl Cells {
         ensures { λ r. ⌜ r ≡ joined board player (held board (self .rows)) ⌝ }
     {
         let cells = clipped(self, board);
-        let start = merged(cells, first_side(board, player), false);
+        let start = merged(cells, first_side(board, player), Way::Both);
         let all = closure(cells, start, board.rows);
-        lowest(merged(all, last_side(board, player), false), board) != 0
+        lowest(merged(all, last_side(board, player), Way::Both), board) != 0
     }
 
     // How many cells of the board are in the set.
