@@ -1,18 +1,25 @@
 -- The tree without the moves that aren't live: its outcomes are outcomes of the whole tree, its moves have cells of moves that were
--- there, each of its waits has a move, and where every move is live it is the whole tree.
+-- there, each of its waits has a move, and where every move is live it is the whole tree. How many the others are.
 use mathlib.Core.Path.{_≡_, refl, ap₂}
-use mathlib.Core.List.{List, _++_, map}
-use mathlib.Core.Bool.{not}
+use mathlib.Core.List.{List, [], _∷_, _++_, map}
+use mathlib.Core.Bool.{Bool, true, false, not, _&&_}
 use mathlib.Core.Logic.{_≢_, ⊎-elim}
-use mathlib.Core.Option.{none}
+use mathlib.Core.Option.{none, some}
 use Prim.Native.Nat.{ℕ, _+_, _≤_}
 use native.Mathlib.Nat.{mul-le-mul}
 use native.Mathlib.Omega.{arith}
-use Rattle.rules.specs.Words.{_∈_, at-head, in-tail, oneIf}
-use Rattle.rules.specs.Tree.{Waits, noWaits, wait, Moves, noMoves, move, Wait, Move, stone, movesOfWaits, movesOfMoves, waitsOfWaits, waitsOfMoves}
-use Rattle.rules.specs.Live.{Shared, andThis, isLive, living, livingAfter, idleInWaits, idleAfter}
+use lib.Dec.{T, eqb, eqb-refl, not-T}
+use lib.ListN.{length, length-append}
+use Rattle.rules.specs.Words.{_∈_, at-head, in-tail, any, total, oneIf}
+use Rattle.rules.specs.Tree.{Waits, noWaits, wait, Moves, noMoves, move, Wait, Move, Sheet, stone, movesOfWaits, movesOfMoves, waitsOfWaits, waitsOfMoves, everyMove, everyWait, moveCount}
+use Rattle.rules.specs.Board.{isCell}
+use Rattle.rules.specs.Written.{howManyMoves}
+use Rattle.rules.specs.Fair.{inWaits, inMove, inEvery}
+use Rattle.rules.specs.Live.{cellsOfWaits, Shared, andThis, isLive, living, livingAfter, idleUnder, idleAt, idleCount}
 use Rattle.rules.specs.Outcomes.{outcomesOfWaits, outcomesOfMoves, countOfWaits, countOfMoves}
-use Rattle.rules.proofs.Tests.{by-cond, one-yes}
+use Rattle.rules.specs.Plain.{IsElusive}
+use Rattle.rules.specs.declared.Board.{Board}
+use Rattle.rules.proofs.Tests.{both, left, twice, by-cond, one-yes, one-no}
 use Rattle.rules.proofs.EachOutcome.{Each, each-mono, each-append, each-front, each-back, each-map, each-unmap, each-with, each-without}
 use Rattle.rules.proofs.Lists.{in-both, in-first, in-second, all-cons, nothing-in}
 use Rattle.rules.proofs.Live.{a-move}
@@ -122,17 +129,75 @@ mutual
       (λ d. later)
       i
 
+-- sums over two lists
+pub total-append : {A : Type 0} (f : A → ℕ) (xs ys : List A) → total f (xs ++ ys) ≡ total f xs + total f ys
+unfolding total
+total-append f [] ys = omega arith
+total-append f (x ∷ xs) ys = omega (arith, total-append f xs ys)
+
 -- where every move is live it is the whole tree
 mutual
-  unfolding living livingAfter idleInWaits idleAfter
+  unfolding living livingAfter waitsOfWaits waitsOfMoves idleUnder total
 
-  pub all-live : (ws : Waits) → idleInWaits ws ≡ 0 → living ws ≡ ws
+  all-live : (ws : Waits) → total idleAt (waitsOfWaits ws) ≡ 0 → living ws ≡ ws
   all-live noWaits h = refl
-  all-live (wait line ms ws) h = ap₂ (wait line) (all-live-after none ms (omega arith)) (all-live ws (omega arith))
+  all-live (wait line ms ws) h =
+      let sum = total-append idleAt (waitsOfMoves ms) (waitsOfWaits ws) in
+      ap₂ (wait line) (all-live-after none ms (omega (arith, sum)) (omega (arith, sum))) (all-live ws (omega (arith, sum)))
 
-  all-live-after : (before : Shared) (ms : Moves) → idleAfter before ms ≡ 0 → livingAfter before ms ≡ ms
-  all-live-after before noMoves h = refl
-  all-live-after before (move line c ws ms) h =
+  all-live-after : (before : Shared) (ms : Moves) → idleUnder before ms ≡ 0 → total idleAt (waitsOfMoves ms) ≡ 0 → livingAfter before ms ≡ ms
+  all-live-after before noMoves h k = refl
+  all-live-after before (move line c ws ms) h k =
+      let sum = total-append idleAt (waitsOfWaits ws) (waitsOfMoves ms) in
       by-cond (λ (ns : Moves). ns ≡ move line c ws ms) (isLive before c ws) _ _
-      (λ l. ap₂ (move line c) (all-live ws (omega arith)) (all-live-after (andThis before c ws) ms (omega arith)))
+      (λ l. ap₂ (move line c) (all-live ws (omega (arith, sum))) (all-live-after (andThis before c ws) ms (omega arith) (omega (arith, sum))))
       (λ d. absurd (omega (arith, one-yes (not (isLive before c ws)) d)))
+
+pub none-idle : (s : Sheet) → idleCount s ≡ 0 → living (s .root .waits) ≡ s .root .waits
+unfolding idleCount everyWait
+none-idle s h = all-live (s .root .waits) h
+
+-- no more moves aren't live than there are moves
+one-at-most : (b : Bool) → oneIf b ≤ 1
+unfolding oneIf
+one-at-most true = omega arith
+one-at-most false = omega arith
+
+mutual
+  unfolding waitsOfWaits waitsOfMoves movesOfWaits movesOfMoves idleUnder total
+
+  idle-waits : (ws : Waits) → total idleAt (waitsOfWaits ws) ≤ length (movesOfWaits ws)
+  idle-waits noWaits = omega arith
+  idle-waits (wait line ms ws) =
+      omega (arith, total-append idleAt (waitsOfMoves ms) (waitsOfWaits ws), idle-moves none ms, idle-waits ws, length-append (movesOfMoves ms) (movesOfWaits ws))
+
+  idle-moves : (before : Shared) (ms : Moves) → idleUnder before ms + total idleAt (waitsOfMoves ms) ≤ length (movesOfMoves ms)
+  idle-moves before noMoves = omega arith
+  idle-moves before (move line c ws ms) =
+      omega (
+        arith,
+        total-append idleAt (waitsOfWaits ws) (waitsOfMoves ms),
+        idle-waits ws,
+        idle-moves (andThis before c ws) ms,
+        length-append (movesOfWaits ws) (movesOfMoves ms),
+        one-at-most (not (isLive before c ws)),
+      )
+
+pub idle-few : (s : Sheet) → idleCount s ≤ moveCount s
+unfolding idleCount moveCount everyWait everyMove
+idle-few s = omega (arith, idle-waits (s .root .waits))
+
+-- a wait of two moves that no cell is in both of has no move that isn't live, nor has one of one move
+pub two-live : (b : Board) (w : Wait) → ((m : Move) → m ∈ movesOfMoves (w .moves) → T (isCell b (m .cell))) → IsElusive b w → howManyMoves (w .moves) ≤ 2 → idleAt w ≡ 0
+unfolding idleUnder andThis isLive any howManyMoves inEvery movesOfMoves inMove
+two-live b w on e h = go (w .moves) on (e .no-cell-in-all) h
+  where
+    go : (ms : Moves) → ((m : Move) → m ∈ movesOfMoves ms → T (isCell b (m .cell))) → ((x : ℕ) → T (isCell b x) → T (inEvery ms x) → ⊥) → howManyMoves ms ≤ 2 → idleUnder none ms ≡ 0
+    go noMoves f g k = refl
+    go (move line c ws noMoves) f g k = omega (arith, one-no (not true) tt)
+    go (move line c ws (move line′ d us noMoves)) f g k =
+        let own : T (inMove c ws c) = left (eqb c c) (inWaits ws c) (eqb-refl c) in
+        let away : T (not (inMove d us c)) = not-T (inMove d us c) (λ i. g c (f _ at-head) (both (inMove c ws c) (inMove d us c && true) own (both (inMove d us c) true i tt))) in
+        let live : T (isLive (some (c ∷ cellsOfWaits ws)) d us) = left (not (inMove d us c)) _ away in
+        omega (arith, one-no (not true) tt, one-no (not (isLive (some (c ∷ cellsOfWaits ws)) d us)) (twice (isLive (some (c ∷ cellsOfWaits ws)) d us) live))
+    go (move line c ws (move line′ d us (move line″ a vs ms))) f g k = absurd (omega arith)

@@ -30,7 +30,7 @@ use Rattle.rules.proofs.EachOutcome.{Each, each-in, each-out, each-map,
 use Rattle.rules.proofs.Given.{Walked, all, first, walked, all-joined}
 use Rattle.rules.proofs.Opening.{FairWaits, waitsIn, fair-opened}
 use Rattle.rules.proofs.Live.{elusive-same}
-use Rattle.rules.proofs.Living.{each-living, fewer-living, all-live}
+use Rattle.rules.proofs.Living.{each-living, fewer-living, none-idle}
 use Rattle.rules.proofs.Answering.{answers, is-live}
 use Rattle.rules.proofs.Cover.{fair-waits}
 
@@ -172,8 +172,8 @@ alike w t = alike-read (read w t) _ _ fair-alike
 
 -- where every move is live the outcomes are what they were
 same-without-spare : SameWithoutSpare
-unfolding outcomes idleCount
-same-without-spare s h = ap (outcomesFrom s) (all-live (s .root .waits) h)
+unfolding outcomes
+same-without-spare s h = ap (outcomesFrom s) (none-idle s h)
 
 pub spared-as-before : SparedAsBefore
 spared-as-before =

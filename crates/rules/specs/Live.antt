@@ -3,8 +3,8 @@ use Prim.Native.Nat.{ℕ, _+_}
 use mathlib.Core.Bool.{Bool, true, not, cond}
 use mathlib.Core.List.{List, [], _∷_, _++_}
 use mathlib.Core.Option.{Option, none, some}
-use Rattle.rules.specs.Words.{keep, any, oneIf}
-use Rattle.rules.specs.Tree.{Waits, noWaits, wait, Moves, noMoves, move, Sheet}
+use Rattle.rules.specs.Words.{keep, any, total, oneIf}
+use Rattle.rules.specs.Tree.{Waits, noWaits, wait, Moves, noMoves, move, Wait, Sheet, everyWait}
 use Rattle.rules.specs.Fair.{inMove}
 
 -- the cells of nodes, as a list
@@ -43,15 +43,13 @@ unfoldable mutual
   livingAfter before (move line c ws ms) =
       cond (isLive before c ws) (move line c (living ws) (livingAfter (andThis before c ws) ms)) (livingAfter (andThis before c ws) ms)
 
--- how many moves aren't live, wherever they stand
-unfoldable mutual
-  pub idleInWaits : Waits → ℕ
-  idleInWaits noWaits = 0
-  idleInWaits (wait line ms ws) = idleAfter none ms + idleInWaits ws
+-- how many of these moves of a wait aren't live, given the moves before them; and how many moves of the sheet, wherever they stand
+unfoldable pub idleUnder : Shared → Moves → ℕ
+idleUnder before noMoves = 0
+idleUnder before (move line c ws ms) = oneIf (not (isLive before c ws)) + idleUnder (andThis before c ws) ms
 
-  pub idleAfter : Shared → Moves → ℕ
-  idleAfter before noMoves = 0
-  idleAfter before (move line c ws ms) = oneIf (not (isLive before c ws)) + idleInWaits ws + idleAfter (andThis before c ws) ms
+abbrev pub idleAt : Wait → ℕ
+idleAt w = idleUnder none (w .moves)
 
 unfoldable pub idleCount : Sheet → ℕ
-idleCount s = idleInWaits (s .root .waits)
+idleCount s = total idleAt (everyWait s)

@@ -1,5 +1,5 @@
 -- Small words that every definition is written with: a choice by a test, and lists.
-use Prim.Native.Nat.{ℕ, zero, suc}
+use Prim.Native.Nat.{ℕ, zero, suc, _+_}
 use mathlib.Core.Bool.{Bool, true, false, _&&_, _||_}
 use mathlib.Core.List.{List, [], _∷_, _++_}
 use mathlib.Core.Option.{Option, none, some}
@@ -46,6 +46,11 @@ same (x ∷ xs) (y ∷ ys) = eqb x y && same xs ys
 unfoldable pub twice : List (List ℕ) → Bool
 twice [] = false
 twice (x ∷ xs) = any (same x) xs || twice xs
+
+-- the sum of what each one gives
+unfoldable pub total : {A : Type 0} → (A → ℕ) → List A → ℕ
+total f [] = 0
+total f (x ∷ xs) = f x + total f xs
 
 -- the numbers 1 to n
 unfoldable pub upTo : ℕ → List ℕ
