@@ -38,7 +38,7 @@ none-smallest b = smallest-zero b (λ x. false) (λ x i h. h)
 
 -- a weighed row on the board is a row on the board
 on-row : {b : Board} {t : List ℕ} (k : Kind) (j c : ℕ) (u : Nodes) → WeighedOn b t k j c u → RowOn b t k j c u
-on-row k j c u r = record { row = r .weight .row; on = r .on }
+on-row k j c u r = record { row = r .weight .row; on = r .on; celled = r .celled }
 
 module _ {b : Board} {t : List ℕ} {i : ℕ} where
   move-is : (m : Move) → At (WeighedOn b t) aMove i (m .cell) (nodesOfWaits (m .waits)) → (1 ≤ i → 1 ≤ m .cell) → isMoveAt t i ≡ true

@@ -71,8 +71,8 @@ stand-of-weighed s = each-map (λ k j c u from to r. r .row) s
 pub weighed-on-at : {b : Board} {t v : List ℕ} {k : Kind} {i c : ℕ} {u : Nodes} → At (WeighedRow v) k i c u → At (RowOn b t) k i c u → At (WeighedOn b v) k i c u
 weighed-on-at n m =
     record {
-      here = record { weight = n .here; on = m .here .on };
-      below = each-both (λ k j c u p q. record { weight = p; on = q .on }) (n .below) (m .below);
+      here = record { weight = n .here; on = m .here .on; celled = m .here .celled };
+      below = each-both (λ k j c u p q. record { weight = p; on = q .on; celled = q .celled }) (n .below) (m .below);
     }
 
 -- a row stored is there, and the rows of other nodes stay

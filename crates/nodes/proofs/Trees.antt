@@ -72,7 +72,7 @@ mutual
   waits-on-board b noWaits f s = nothing
   waits-on-board b (wait line ms ws) f (first r below rest) =
       first
-      (record { row = r; on = omega arith })
+      (record { row = r; on = omega arith; celled = tt })
       (moves-on-board b ms (λ m h. f m (in-first (movesOfWaits ws) h)) below)
       (waits-on-board b ws (λ m h. f m (in-second (movesOfMoves ms) h)) rest)
 
@@ -80,16 +80,17 @@ mutual
       → Stand t aMove i (nodesOfMoves ms) → Each (RowOn b t) aMove i (nodesOfMoves ms)
   moves-on-board b noMoves f s = nothing
   moves-on-board b (move line c ws ms) f (first r below rest) =
+      let range = cell-range b c (f (record { line = line; cell = c; waits = ws }) at-head) in
       first
-      (record { row = r; on = cell-range b c (f (record { line = line; cell = c; waits = ws }) at-head) .1 })
+      (record { row = r; on = range .1; celled = λ p. range .0 })
       (waits-on-board b ws (λ m h. f m (in-tail (in-first (movesOfMoves ms) h))) below)
       (moves-on-board b ms (λ m h. f m (in-tail (in-second (movesOfWaits ws) h))) rest)
 
-pub root-on-board : {t : List ℕ} {i : ℕ} (b : Board) (c : ℕ) (ws : Waits) → (c ≡ 0) ⊎ T (isCell b c) → ((m : Move) → m ∈ movesOfWaits ws → T (isCell b (m .cell)))
-    → At (Row t) aMove i c (nodesOfWaits ws) → At (RowOn b t) aMove i c (nodesOfWaits ws)
+pub root-on-board : {t : List ℕ} (b : Board) (c : ℕ) (ws : Waits) → (c ≡ 0) ⊎ T (isCell b c) → ((m : Move) → m ∈ movesOfWaits ws → T (isCell b (m .cell)))
+    → At (Row t) aMove 0 c (nodesOfWaits ws) → At (RowOn b t) aMove 0 c (nodesOfWaits ws)
 unfolding cells
 root-on-board b c ws z f n =
     record {
-      here = record { row = n .here; on = ⊎-elim (λ e. omega arith) (λ h. cell-range b c h .1) z };
+      here = record { row = n .here; on = ⊎-elim (λ e. omega arith) (λ h. cell-range b c h .1) z; celled = λ p. absurd (omega arith) };
       below = waits-on-board b ws f (n .below);
     }

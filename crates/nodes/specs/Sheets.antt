@@ -4,7 +4,8 @@ use mathlib.Core.List.{List}
 use Prim.Native.Nat.{ℕ, _+_, _≤_}
 use lib.ListN.{length}
 use Rattle.rules.specs.Sizes.{mostBytes, leastWorkspace}
-use Rattle.rules.specs.Tree.{Stone, Sheet, ownCells, oppCells}
+use Rattle.rules.specs.Tree.{Waits, Stone, Sheet, ownCells, oppCells}
+use Rattle.rules.specs.Live.{living}
 use Rattle.rules.specs.Plain.{WellRead}
 use Rattle.rules.specs.declared.Board.{Board}
 use Rattle.cells.specs.Cells.{Holds}
@@ -13,12 +14,19 @@ use Rattle.nodes.specs.declared.SetUp.{SetUp}
 use Rattle.nodes.specs.Nodes.{aMove, nodesOfWaits}
 use Rattle.nodes.specs.Table.{WeighedRow, At}
 
--- the sheet is one that reads, on this board
-pub record HoldsSheet (t : List ℕ) (b : Board) (s : Sheet) : Type 0 where
+-- the sheet is one that reads, on this board; the root stands there with these waits
+pub record HoldsTree (t : List ℕ) (b : Board) (s : Sheet) (ws : Waits) : Type 0 where
   pub long : length t ≡ leastWorkspace
   pub on : s .board ≡ b
   pub well : WellRead s
-  pub root : At (WeighedRow t) aMove 0 (s .root .cell) (nodesOfWaits (s .root .waits))
+  pub root : At (WeighedRow t) aMove 0 (s .root .cell) (nodesOfWaits ws)
+
+-- with its own, or with what is left of them without the moves that aren't live
+abbrev pub HoldsSheet : List ℕ → Board → Sheet → Type 0
+HoldsSheet t b s = HoldsTree t b s (s .root .waits)
+
+abbrev pub HoldsLiving : List ℕ → Board → Sheet → Type 0
+HoldsLiving t b s = HoldsTree t b s (living (s .root .waits))
 
 -- some sheet is held
 pub record SomeSheet (t : List ℕ) (b : Board) : Type 0 where

@@ -8,7 +8,7 @@ use lib.Dec.{eqb}
 use lib.ListN.{length, getD, set}
 use Rattle.rules.specs.Board.{cells}
 use Rattle.rules.specs.declared.Board.{Board}
-use Rattle.nodes.specs.Nodes.{Nodes, noNodes, node, Kind, other, many, size, countOf, limited}
+use Rattle.nodes.specs.Nodes.{Nodes, noNodes, node, Kind, aWait, aMove, other, many, size, countOf, limited}
 
 abbrev pub cellIn : List ℕ → ℕ → ℕ
 cellIn t i = getD t (4 * i) 0
@@ -54,15 +54,22 @@ pub record WeighedRow (t : List ℕ) (k : Kind) (i c : ℕ) (u : Nodes) : Type 0
   pub end : endIn t i ≡ i + 1 + size u
   pub count : countIn t i ≡ limited (countOf (other k) u)
 
+-- only the first node may be a move without a cell
+abbrev pub Celled : Kind → (i c : ℕ) → Type 0
+Celled aMove i c = 1 ≤ i → 1 ≤ c
+Celled aWait i c = Unit {0}
+
 -- besides the first two, its cell is one of the board, or 0
 pub record RowOn (b : Board) (t : List ℕ) (k : Kind) (i c : ℕ) (u : Nodes) : Type 0 where
   pub row : Row t k i c u
   pub on : c ≤ cells b
+  pub celled : Celled k i c
 
 -- it is weighed, and its cell is one of the board, or 0
 pub record WeighedOn (b : Board) (t : List ℕ) (k : Kind) (i c : ℕ) (u : Nodes) : Type 0 where
   pub weight : WeighedRow t k i c u
   pub on : c ≤ cells b
+  pub celled : Celled k i c
 
 -- the nodes stand in the table from node i on
 abbrev pub Stand : List ℕ → Kind → ℕ → Nodes → Type 0
