@@ -1,5 +1,6 @@
 pub mod Found
 pub mod Laid
+pub mod Adding
 pub mod WhichKind
 pub mod Search
 pub mod Rows

@@ -17,7 +17,6 @@ use Rattle.rules.specs.Written.{howManyMoves}
 use Rattle.rules.specs.Fair.{inWaits, inMove, inEvery}
 use Rattle.rules.specs.Live.{cellsOfWaits, Shared, andThis, isLive, living, livingAfter, idleUnder, idleAt, idleCount}
 use Rattle.rules.specs.Outcomes.{outcomesOfWaits, outcomesOfMoves, countOfWaits, countOfMoves}
-use Rattle.rules.specs.Plain.{IsElusive}
 use Rattle.rules.specs.declared.Board.{Board}
 use Rattle.rules.proofs.Tests.{both, left, twice, by-cond, one-yes, one-no}
 use Rattle.rules.proofs.EachOutcome.{Each, each-mono, each-append, each-front, each-back, each-map, each-unmap, each-with, each-without}
@@ -187,17 +186,18 @@ pub idle-few : (s : Sheet) → idleCount s ≤ moveCount s
 unfolding idleCount moveCount everyWait everyMove
 idle-few s = omega (arith, idle-waits (s .root .waits))
 
--- a wait of two moves that no cell is in both of has no move that isn't live, nor has one of one move
-pub two-live : (b : Board) (w : Wait) → ((m : Move) → m ∈ movesOfMoves (w .moves) → T (isCell b (m .cell))) → IsElusive b w → howManyMoves (w .moves) ≤ 2 → idleAt w ≡ 0
-unfolding idleUnder andThis isLive any howManyMoves inEvery movesOfMoves inMove
-two-live b w on e h = go (w .moves) on (e .no-cell-in-all) h
-  where
-    go : (ms : Moves) → ((m : Move) → m ∈ movesOfMoves ms → T (isCell b (m .cell))) → ((x : ℕ) → T (isCell b x) → T (inEvery ms x) → ⊥) → howManyMoves ms ≤ 2 → idleUnder none ms ≡ 0
-    go noMoves f g k = refl
-    go (move line c ws noMoves) f g k = omega (arith, one-no (not true) tt)
-    go (move line c ws (move line′ d us noMoves)) f g k =
-        let own : T (inMove c ws c) = left (eqb c c) (inWaits ws c) (eqb-refl c) in
-        let away : T (not (inMove d us c)) = not-T (inMove d us c) (λ i. g c (f _ at-head) (both (inMove c ws c) (inMove d us c && true) own (both (inMove d us c) true i tt))) in
-        let live : T (isLive (some (c ∷ cellsOfWaits ws)) d us) = left (not (inMove d us c)) _ away in
-        omega (arith, one-no (not true) tt, one-no (not (isLive (some (c ∷ cellsOfWaits ws)) d us)) (twice (isLive (some (c ∷ cellsOfWaits ws)) d us) live))
-    go (move line c ws (move line′ d us (move line″ a vs ms))) f g k = absurd (omega arith)
+-- two moves that no cell is in both of are live, and so is one
+abbrev pub FirstOn : Board → Moves → Type 0
+FirstOn b noMoves = Unit {0}
+FirstOn b (move line c ws ms) = T (isCell b c)
+
+pub two-live : (b : Board) (ms : Moves) → FirstOn b ms → ((x : ℕ) → T (isCell b x) → T (inEvery ms x) → ⊥) → howManyMoves ms ≤ 2 → idleUnder none ms ≡ 0
+unfolding idleUnder andThis isLive any howManyMoves inEvery inMove
+two-live b noMoves i e h = refl
+two-live b (move line c ws noMoves) i e h = omega (arith, one-no (not true) tt)
+two-live b (move line c ws (move line′ d us noMoves)) i e h =
+    let own : T (inMove c ws c) = left (eqb c c) (inWaits ws c) (eqb-refl c) in
+    let away : T (not (inMove d us c)) = not-T (inMove d us c) (λ k. e c i (both (inMove c ws c) (inMove d us c && true) own (both (inMove d us c) true k tt))) in
+    let live : T (isLive (some (c ∷ cellsOfWaits ws)) d us) = left (not (inMove d us c)) _ away in
+    omega (arith, one-no (not true) tt, one-no (not (isLive (some (c ∷ cellsOfWaits ws)) d us)) (twice (isLive (some (c ∷ cellsOfWaits ws)) d us) live))
+two-live b (move line c ws (move line′ d us (move line″ a vs ms))) i e h = absurd (omega arith)
