@@ -33,16 +33,16 @@ module _ (S : Sum) where
     pub added : sum + total (S .gives) rest ≡ S .all s
     pub known : (n : TreeNode) → n ∈ rest → S .Known b n
 
-  pub record Adding (t : List ℕ) (i end sum : ℕ) : Type 0 where
+  pub record Adding (b : Board) (t : List ℕ) (i end sum : ℕ) : Type 0 where
     pub so-far : i ≤ end
-    pub rests : (b : Board) (s : Sheet) → HoldsSheet t b s → S .Of s → Rest b t i end sum s
+    pub rests : (s : Sheet) → HoldsSheet t b s → S .Of s → Rest b t i end sum s
 
-  pub adding-starts : (t : List ℕ) (end : ℕ) → end ≡ endIn t 0 → Adding t 0 end 0
-  adding-starts t end e =
+  pub adding-starts : (b : Board) (t : List ℕ) (end : ℕ) → end ≡ endIn t 0 → Adding b t 0 end 0
+  adding-starts b t end e =
       record {
         so-far = omega arith;
         rests =
-            λ b s h k.
+            λ s h k.
             record {
               rest = treeOf s;
               laid = sheet-laid s h;
@@ -72,30 +72,30 @@ module _ (S : Sum) where
       go (n ∷ ns) (laidNode a line l) e c k =
           record { node = n; at = a; is-known = k n at-head; others = ns; laid = l; to-end = omega arith; added = c; known = λ m j. k m (in-tail j) }
 
-  module _ {t : List ℕ} {i end sum : ℕ} (c : Adding t i end sum) where
-    pub adding-node : i < end → {b : Board} {s : Sheet} → HoldsSheet t b s → S .Of s → SomeTreeNode b t i
-    adding-node h {b} {s} k o = let m = meet h (c .rests b s k o) in record { node = m .node; at = m .at }
+  module _ {b : Board} {t : List ℕ} {i end sum : ℕ} (c : Adding b t i end sum) where
+    pub adding-node : i < end → {s : Sheet} → HoldsSheet t b s → S .Of s → SomeTreeNode b t i
+    adding-node h {s} k o = let m = meet h (c .rests s k o) in record { node = m .node; at = m .at }
 
     -- what it gives is added
-    module _ (h : i < end) {x : ℕ} (is : (b : Board) (n : TreeNode) → NodeAt b t i n → S .Known b n → x ≡ S .gives n) where
-      pub adding-again : Adding t (i + 1) end (sum + x)
+    module _ (h : i < end) {x : ℕ} (is : (n : TreeNode) → NodeAt b t i n → S .Known b n → x ≡ S .gives n) where
+      pub adding-again : Adding b t (i + 1) end (sum + x)
       adding-again =
           record {
             so-far = omega arith;
-            rests = λ b s k o.
-                let m = meet h (c .rests b s k o) in
-                let e = is b (m .node) (m .at) (m .is-known) in
+            rests = λ s k o.
+                let m = meet h (c .rests s k o) in
+                let e = is (m .node) (m .at) (m .is-known) in
                 record { rest = m .others; laid = m .laid; to-end = m .to-end; added = omega (arith, m .added, e); known = m .known };
           }
 
-      pub adding-few : (b : Board) (s : Sheet) → HoldsSheet t b s → S .Of s → sum + x ≤ S .all s
-      adding-few b s k o =
-          let m = meet h (c .rests b s k o) in
-          omega (arith, m .added, is b (m .node) (m .at) (m .is-known))
+      pub adding-few : (s : Sheet) → HoldsSheet t b s → S .Of s → sum + x ≤ S .all s
+      adding-few s k o =
+          let m = meet h (c .rests s k o) in
+          omega (arith, m .added, is (m .node) (m .at) (m .is-known))
 
-    pub adding-done : end ≤ i → (b : Board) (s : Sheet) → HoldsSheet t b s → S .Of s → sum ≡ S .all s
+    pub adding-done : end ≤ i → (s : Sheet) → HoldsSheet t b s → S .Of s → sum ≡ S .all s
     unfolding total
-    adding-done h b s k o = go (c .rests b s k o .rest) (c .rests b s k o .to-end) (c .rests b s k o .added)
+    adding-done h s k o = go (c .rests s k o .rest) (c .rests s k o .to-end) (c .rests s k o .added)
       where
         go : (ns : List TreeNode) → i + length ns ≡ end → sum + total (S .gives) ns ≡ S .all s → sum ≡ S .all s
         go [] e q = omega arith

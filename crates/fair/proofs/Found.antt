@@ -72,7 +72,7 @@ crowded-all false false = refl
 
 -- the cells of one node, collected alone
 module _ {k : Kind} {b : Board} {t : List ℕ} {i : ℕ} {none rows : List ℕ} {next : ℕ} (h : CollectsAny k b t i none rows next) (e : (x : ℕ) → held b none x ≡ false) where
-  alone-held : (c : ℕ) (u : Nodes) → At (RowOn b t) k i c u → (x : ℕ) → 1 ≤ x → held b rows x ≡ inNode k c u x
+  pub alone-held : (c : ℕ) (u : Nodes) → At (RowOn b t) k i c u → (x : ℕ) → 1 ≤ x → held b rows x ≡ inNode k c u x
   alone-held c u n x p = h c u n .held-are x p ∙ ap (λ (y : Bool). y || inNode k c u x) (e x)
 
 -- ---- at a move

@@ -19,10 +19,10 @@ use Rattle.rules.proofs.Smallest.{smallest-is, smallest-zero}
 use Rattle.rules.proofs.Places.{cell-range}
 use Rattle.cells.specs.Cells.{held}
 use Rattle.cells.proofs.Smallest.{smallest-same}
-use Rattle.nodes.specs.Nodes.{Nodes, Kind, aWait, aMove, nodesOfWaits, nodesOfMoves, many}
+use Rattle.nodes.specs.Nodes.{aWait, aMove, nodesOfWaits, nodesOfMoves, many}
 use Rattle.nodes.specs.Table.{cellIn, underIn, RowOn, WeighedOn, At, SomeNode, isMoveAt}
 use Rattle.nodes.specs.Order.{TreeNode, isMove, isWait}
-use Rattle.nodes.proofs.Table.{at-map}
+use Rattle.nodes.proofs.Table.{at-map, on-row}
 use Rattle.fair.specs.Faults.{notFree, atMoves, atWaits, faultyBy, MoveAt, WaitAt, NodeAt, moveAt, waitAt, SomeTreeNode, FoundAtMove, FoundAtWait, LeastAt}
 use Rattle.fair.specs.Twice.{ForkAt, SomeFork, twiceBy}
 use Rattle.fair.specs.declared.Test.{Test}
@@ -36,12 +36,8 @@ held-cell b rows x e = fst (isCell b x) _ (holds-of e)
 pub none-smallest : (b : Board) → smallest b (λ x. false) ≡ 0
 none-smallest b = smallest-zero b (λ x. false) (λ x i h. h)
 
--- a weighed row on the board is a row on the board
-on-row : {b : Board} {t : List ℕ} (k : Kind) (j c : ℕ) (u : Nodes) → WeighedOn b t k j c u → RowOn b t k j c u
-on-row k j c u r = record { row = r .weight .row; on = r .on; celled = r .celled }
-
 module _ {b : Board} {t : List ℕ} {i : ℕ} where
-  move-is : (m : Move) → At (WeighedOn b t) aMove i (m .cell) (nodesOfWaits (m .waits)) → (1 ≤ i → 1 ≤ m .cell) → isMoveAt t i ≡ true
+  pub move-is : (m : Move) → At (WeighedOn b t) aMove i (m .cell) (nodesOfWaits (m .waits)) → (1 ≤ i → 1 ≤ m .cell) → isMoveAt t i ≡ true
   move-is m a f =
       ⊎-elim (λ e. rw (eq-eqb i 0 e))
       (λ p. rw (ne-eqb i 0 (λ e. omega arith), ne-eqb (cellIn t i) 0 (λ e. omega (arith, a .here .weight .row .cell, f p))))

@@ -75,6 +75,10 @@ weighed-on-at n m =
       below = each-both (λ k j c u p q. record { weight = p; on = q .on; celled = q .celled }) (n .below) (m .below);
     }
 
+-- a weighed row on the board is a row on the board
+pub on-row : {b : Board} {t : List ℕ} (k : Kind) (j c : ℕ) (u : Nodes) → WeighedOn b t k j c u → RowOn b t k j c u
+on-row k j c u r = record { row = r .weight .row; on = r .on; celled = r .celled }
+
 -- a row stored is there, and the rows of other nodes stay
 pub stored-row : (t : List ℕ) (k : Kind) (i c n : ℕ) (u : Nodes) → 4 * i + 3 < length t → many u ≡ n → Row (withNode t i c n) k i c u
 stored-row t k i c n u h e =
@@ -85,7 +89,7 @@ stored-row t k i c n u h e =
       under = getD-set-other (set t (4 * i + 1) n) (4 * i) (4 * i + 1) c 0 (omega arith) ∙ getD-set-same t (4 * i + 1) n 0 (omega arith) ∙ sym e;
     }
 
-stored : (t : List ℕ) (i c n from to : ℕ) → ((m : ℕ) → 4 * from ≤ m → m < 4 * to → (m ≡ 4 * i → ⊥) × (m ≡ 4 * i + 1 → ⊥)) → Agree t (withNode t i c n) from to
+pub stored : (t : List ℕ) (i c n from to : ℕ) → ((m : ℕ) → 4 * from ≤ m → m < 4 * to → (m ≡ 4 * i → ⊥) × (m ≡ 4 * i + 1 → ⊥)) → Agree t (withNode t i c n) from to
 stored t i c n from to f =
     record {
       long = length-set (set t (4 * i + 1) n) (4 * i) c ∙ length-set t (4 * i + 1) n;

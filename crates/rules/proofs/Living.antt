@@ -157,7 +157,7 @@ unfolding idleCount everyWait
 none-idle s h = all-live (s .root .waits) h
 
 -- no more moves aren't live than there are moves
-one-at-most : (b : Bool) → oneIf b ≤ 1
+pub one-at-most : (b : Bool) → oneIf b ≤ 1
 unfolding oneIf
 one-at-most true = omega arith
 one-at-most false = omega arith

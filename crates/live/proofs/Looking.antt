@@ -1,0 +1,75 @@
+-- Looking at a move of the table.
+use mathlib.Core.Path.{_≡_, sym, _∙_, subst⁻¹}
+use mathlib.Core.Bool.{true, false, _||_, true≢false}
+use mathlib.Core.List.{List}
+use mathlib.Core.Logic.{⊎-elim}
+use mathlib.Core.Option.{none, some}
+use mathlib.Core.Path.{ap}
+use Prim.Native.Nat.{ℕ, _+_, _≤_}
+use native.Mathlib.Omega.{arith}
+use lib.Dec.{T, eqb, eqb→eq}
+use Rattle.rules.specs.declared.Board.{Board}
+use Rattle.rules.specs.Tree.{Waits}
+use Rattle.rules.specs.Fair.{inWaits, inMove}
+use Rattle.rules.specs.Live.{Shared, andThis}
+use Rattle.rules.proofs.Tests.{cases}
+use Rattle.cells.specs.Cells.{held}
+use Rattle.nodes.specs.Nodes.{Nodes, Kind, aWait, aMove, other, nodesOfWaits, named, inNodes}
+use Rattle.nodes.specs.Table.{endIn, Celled, WeighedOn, Each, nothing, first, At, SomeNode, RowOn}
+use Rattle.nodes.specs.Collecting.{CollectsAny}
+use Rattle.nodes.proofs.Table.{at-map, on-row}
+use Rattle.nodes.proofs.Trees.{waits-cells}
+use Rattle.fair.proofs.Found.{alone-held}
+use Rattle.live.specs.Looking.{CellsAre, CommonIs, LivesAny, NarrowedAny, Told, LookedAny}
+use Rattle.live.specs.declared.Common.{Common}
+use Rattle.live.specs.declared.Looked.{Looked}
+use Rattle.live.proofs.Sharing.{spent-idle, spent-still}
+
+-- below the root no node has the cell 0
+no-zero : {b : Board} {t : List ℕ} {k : Kind} {i : ℕ} {n : Nodes} → 1 ≤ i → Each (WeighedOn b t) k i n → T (inNodes k n 0) → ⊥
+unfolding inNodes
+no-zero p nothing h = h
+no-zero {k = k} {i = i} p (first {c = c} {u = u} {a = a} r below rest) h =
+    ⊎-elim
+    (λ q. ⊎-elim (own k (r .celled)) (no-zero (omega arith) below) (cases (named k c 0) (inNodes (other k) u 0) q))
+    (no-zero (omega arith) rest)
+    (cases (named k c 0 || inNodes (other k) u 0) (inNodes k a 0) h)
+  where
+    own : (k : Kind) → Celled k i c → T (named k c 0) → ⊥
+    own aMove g q = omega (arith, g p, eqb→eq 0 c q)
+    own aWait g q = q
+
+pub some-row : {b : Board} {t : List ℕ} {k : Kind} {i : ℕ} → SomeNode (WeighedOn b t) k i → SomeNode (RowOn b t) k i
+some-row n = record { cell = n .cell; under = n .under; at = at-map on-row (n .at) }
+
+module _ {b : Board} {t : List ℕ} {i : ℕ} where
+  -- the cells that were collected are the move's
+  collected : {set rows : List ℕ} {next : ℕ} → 1 ≤ i → CollectsAny aMove b t i set rows next → ((x : ℕ) → held b set x ≡ false)
+      → (c : ℕ) (ws : Waits) → At (WeighedOn b t) aMove i c (nodesOfWaits ws) → CellsAre b rows c ws
+  unfolding inMove
+  collected p h e c ws a =
+      record {
+        same = λ x q. alone-held h e c (nodesOfWaits ws) (at-map on-row a) x q ∙ ap (λ y. eqb x c || y) (waits-cells ws x);
+        no-zero = λ m.
+            ⊎-elim (λ q. omega (arith, a .here .celled p, eqb→eq 0 c q)) (λ q. no-zero (omega arith) (a .below) (subst⁻¹ T (waits-cells ws 0) q))
+            (cases (eqb 0 c) (inWaits ws 0) m);
+      }
+
+  pub looked-at : (z : Common) {set own : List ℕ} (r : Looked) → 1 ≤ i → CollectsAny aMove b t i set own (r .next) → ((x : ℕ) → held b set x ≡ false)
+      → LivesAny b z own (r .live) → NarrowedAny b z own (r .common) → LookedAny b t i z r
+  looked-at z r p h e l n =
+      record {
+        next-is = λ c u a. h c u (at-map on-row a) .next-is;
+        tells = λ before c ws k a.
+            let own = collected p h e c ws a in
+            record { live-is = l before c ws k own; common-is = n before c ws k own };
+      }
+
+  -- where no cell is common the cells are not asked for
+  pub looked-past : (z : Common) (next : ℕ) → z .spent ≡ true → next ≡ endIn t i → LookedAny b t i z (record { live = false; next = next; common = z })
+  looked-past z next e n = record { next-is = λ c u a. n ∙ a .here .weight .end; tells = past }
+    where
+      past : (before : Shared) (c : ℕ) (ws : Waits) → CommonIs b z before → At (WeighedOn b t) aMove i c (nodesOfWaits ws)
+          → Told b before c ws (record { live = false; next = next; common = z })
+      past none c ws k a = absurd (true≢false (sym e ∙ k .none-spent))
+      past (some xs) c ws k a = record { live-is = spent-idle b z xs e k c ws; common-is = unfold andThis in spent-still b z xs e k c ws }

@@ -1,0 +1,3 @@
+-- What the contracts of `live` cite.
+pub mod Looking
+pub mod Thinning
