@@ -6,6 +6,7 @@ ghost use lib.ListN.{length};
 ghost use Rattle.rules.specs.Words.{oneIf};
 ghost use Rattle.rules.specs.Verdict.{told, toldAs};
 ghost use Rattle.rules.specs.Decimal.{decimal};
+ghost use Rattle.report.specs.All.{allNumbers};
 ghost use Rattle.report.specs.Line.{fields, lineOf, reportLine};
 ghost use Rattle.report.specs.Writing.{Wrote, WroteWithin};
 use rules::Counts;
@@ -25,6 +26,7 @@ fn refusal(number: u32, line: u32, cell: u32, index: u32) -> Told
             moves: 0,
             waits: 0,
             outcomes: 0,
+            idle: 0,
         },
     }
 }
@@ -64,6 +66,27 @@ pub fn tell(v: Verdict) -> Told
         Verdict::OnSetUp { line, cell } => refusal(20, line, cell, 0),
         Verdict::SameBranch { line } => refusal(24, line, 0, 0),
     }
+}
+
+// All numbers of a verdict: what document 01 says of it, and the counts that came with the follow-up requests.
+pub fn tell_all(v: Verdict) -> [u32; 9]
+    ensures { λ r. ⌜ r ≡ allNumbers (told v) ⌝ }
+{
+    let told = tell(v);
+    let counts = told.counts;
+    // No outcome is passed over until C-15.
+    let passed = 0;
+    [
+        told.number,
+        told.line,
+        told.cell,
+        told.index,
+        counts.moves,
+        counts.waits,
+        counts.outcomes,
+        passed,
+        counts.idle,
+    ]
 }
 
 // 1 where it holds, else 0.
