@@ -1,7 +1,7 @@
 -- How the code reads a request's line: its word, its numbers and their limits; and the laws of such lines.
 use mathlib.Core.Path.{_≡_, refl, sym, ap, _∙_}
 use Prim.Native.Nat.{ℕ, _+_, _*_, _<_, _≤_}
-use mathlib.Core.Bool.{Bool, true, _&&_}
+use mathlib.Core.Bool.{Bool, true, false, _&&_}
 use mathlib.Core.List.{List, [], _∷_}
 use native.Mathlib.Nat.{sub-zero}
 use native.Mathlib.Omega.{arith}
@@ -24,11 +24,13 @@ use Rattle.requests.specs.declared.AskRead.{AskRead}
 use Rattle.requests.specs.declared.AskRead.the-variants as AskRead
 use Rattle.requests.proofs.Fields.{NoTab, field-one, field-no-tab, numbers-end, fields-one, line-ends}
 
--- a word that is none of the three asks nothing
-pub unknown-ask : {field : Bytes} → ¬ (field ≡ nameOf Ask.Judge) → ¬ (field ≡ nameOf Ask.Play) → ¬ (field ≡ nameOf Ask.Outcome) → AskReply field AskRead.Unknown
-unknown-ask j p o Ask.Judge = j
-unknown-ask j p o Ask.Play = p
-unknown-ask j p o Ask.Outcome = o
+-- a word that is none of the four asks nothing
+pub unknown-ask : {field : Bytes} → ¬ (field ≡ nameOf (Ask.Judge false)) → ¬ (field ≡ nameOf Ask.Play) → ¬ (field ≡ nameOf Ask.Outcome) → ¬ (field ≡ nameOf (Ask.Judge true))
+    → AskReply field AskRead.Unknown
+unknown-ask j p o c (Ask.Judge false) = j
+unknown-ask j p o c (Ask.Judge true) = c
+unknown-ask j p o c Ask.Play = p
+unknown-ask j p o c Ask.Outcome = o
 
 -- the kind that is asked is known, and so how many numbers it has
 pub counted-as : {ask a : Ask} (n : ℕ) → ask ≡ a → HasNumbers a n → HasNumbers ask n
@@ -39,7 +41,7 @@ pub counted-first : (ask : Ask) (numbers : List ℕ) (n i : ℕ) → HasNumbers 
 counted-first ask numbers n i c h = getD-take n numbers i 0 (omega (arith, two ask c))
   where
     two : (a : Ask) → HasNumbers a n → 2 ≤ n
-    two Ask.Judge h = omega arith
+    two (Ask.Judge all) h = omega arith
     two Ask.Play h = omega arith
     two Ask.Outcome h = omega arith
 
@@ -78,7 +80,8 @@ letters (b ∷ t) h = every-more (leb→le 48 b (fst (leb 48 b) (past t) h)) (le
 
 -- a word's letters come after the digits
 name-letters : (ask : Ask) → Every (λ (b : ℕ). 48 ≤ b) (nameOf ask)
-name-letters Ask.Judge = letters (nameOf Ask.Judge) tt
+name-letters (Ask.Judge false) = letters (nameOf (Ask.Judge false)) tt
+name-letters (Ask.Judge true) = letters (nameOf (Ask.Judge true)) tt
 name-letters Ask.Play = letters (nameOf Ask.Play) tt
 name-letters Ask.Outcome = letters (nameOf Ask.Outcome) tt
 
@@ -91,10 +94,11 @@ name-one : (a b : Ask) → nameOf a ≡ nameOf b → a ≡ b
 name-one a b e = sym (back a) ∙ ap askOf e ∙ back b
   where
     askOf : Bytes → Ask
-    askOf t = if eqb (length t) 5 then Ask.Judge else if eqb (length t) 4 then Ask.Play else Ask.Outcome
+    askOf t = if eqb (length t) 5 then Ask.Judge false else if eqb (length t) 6 then Ask.Judge true else if eqb (length t) 4 then Ask.Play else Ask.Outcome
 
     back : (ask : Ask) → askOf (nameOf ask) ≡ ask
-    back Ask.Judge = refl
+    back (Ask.Judge false) = refl
+    back (Ask.Judge true) = refl
     back Ask.Play = refl
     back Ask.Outcome = refl
 
@@ -143,7 +147,8 @@ line-one {line} {ns} {ms} {r} {p} a b =
 
 -- a word and as many numbers as its kind has, of eleven bytes each, are short
 name-short : (ask : Ask) (n : ℕ) → HasNumbers ask n → n ≤ 403 → length (nameOf ask) + 11 * n ≤ 4437
-name-short Ask.Judge n h l = omega arith
+name-short (Ask.Judge false) n h l = omega arith
+name-short (Ask.Judge true) n h l = omega arith
 name-short Ask.Play n h l = omega arith
 name-short Ask.Outcome n h l = omega arith
 

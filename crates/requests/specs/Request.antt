@@ -1,6 +1,7 @@
 -- What a request's line says: it is read as report's numbers are written, a word and then numbers, each after a tab.
 use mathlib.Core.Path.{_≡_}
 use Prim.Native.Nat.{ℕ, _<_, _≤_}
+use mathlib.Core.Bool.{true, false}
 use mathlib.Core.List.{List, [], _∷_, _++_}
 use lib.ListN.{length, getD, take, drop}
 use Rattle.rules.specs.Text.{Bytes}
@@ -18,9 +19,10 @@ use Rattle.requests.specs.declared.RequestRead.the-variants as RequestRe
 use Rattle.requests.specs.declared.CountRead.{CountRead}
 use Rattle.requests.specs.declared.CountRead.the-variants as CountRead
 
--- the words `judge`, `play` and `outcome`
+-- the words `judge`, `counts`, `play` and `outcome`
 abbrev pub nameOf : Ask → Bytes
-nameOf Ask.Judge = 106 ∷ 117 ∷ 100 ∷ 103 ∷ 101 ∷ []
+nameOf (Ask.Judge false) = 106 ∷ 117 ∷ 100 ∷ 103 ∷ 101 ∷ []
+nameOf (Ask.Judge true) = 99 ∷ 111 ∷ 117 ∷ 110 ∷ 116 ∷ 115 ∷ []
 nameOf Ask.Play = 112 ∷ 108 ∷ 97 ∷ 121 ∷ []
 nameOf Ask.Outcome = 111 ∷ 117 ∷ 116 ∷ 99 ∷ 111 ∷ 109 ∷ 101 ∷ []
 
@@ -69,9 +71,9 @@ abbrev pub AskReply : Bytes → AskRead → Type 0
 AskReply field (AskRead.Got ask) = field ≡ nameOf ask
 AskReply field AskRead.Unknown = (ask : Ask) → ¬ (field ≡ nameOf ask)
 
--- judge: workspace, bytes; play: those, room and cells; outcome: those, room and the outcome's number
+-- judge, with all counts or not: workspace, bytes; play: those, room and cells; outcome: those, room and the outcome's number
 abbrev pub HasNumbers : Ask → ℕ → Type 0
-HasNumbers Ask.Judge n = n ≡ 2
+HasNumbers (Ask.Judge all) n = n ≡ 2
 HasNumbers Ask.Play n = 3 ≤ n
 HasNumbers Ask.Outcome n = n ≡ 4
 

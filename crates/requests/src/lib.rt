@@ -19,9 +19,9 @@ const MOST_ROOM: usize = 1000;
 // The most bytes of a request's line: `play` and 403 numbers of ten digits, each after a tab.
 const MOST_LINE: usize = 4437;
 
-// What is asked of a sheet.
+// What is asked of a sheet: `judge`, or with all counts `counts`; `play`; `outcome`.
 pub enum Ask {
-    Judge,
+    Judge { all: bool },
     Play,
     Outcome,
 }
@@ -146,13 +146,20 @@ fn read_ask(field: &[u8]) -> AskRead
     ensures { λ r. ⌜ AskReply (now (field .entry)) r ⌝ }
 {
     if same(field, b"judge") {
-        return AskRead::Got { ask: Ask::Judge };
+        return AskRead::Got {
+            ask: Ask::Judge { all: false },
+        };
     }
     if same(field, b"play") {
         return AskRead::Got { ask: Ask::Play };
     }
     if same(field, b"outcome") {
         return AskRead::Got { ask: Ask::Outcome };
+    }
+    if same(field, b"counts") {
+        return AskRead::Got {
+            ask: Ask::Judge { all: true },
+        };
     }
     AskRead::Unknown
 }
@@ -162,7 +169,7 @@ fn right_count(ask: Ask, count: usize) -> bool
     ensures { λ r. ⌜ (r ≡ true → HasNumbers ask count) × (HasNumbers ask count → r ≡ true) ⌝ }
 {
     match ask {
-        Ask::Judge => count == 2,
+        Ask::Judge { all: _ } => count == 2,
         Ask::Play => 3 <= count,
         Ask::Outcome => count == 4,
     }

@@ -1,4 +1,4 @@
--- `read_ask` meets its contract: the field is the word, or none of the three.
+-- `read_ask` meets its contract: the field is the word, or none of the four.
 use borrow.Author.Needs.{needs}
 use Rattle.requests.proofs.Numbers.{refuted}
 use Rattle.requests.proofs.Reading.{unknown-ask}
@@ -18,11 +18,16 @@ read-ask-spec =
     (λ c. search needs)
     (λ c κs. search needs)
     (λ c. c .before .same3 .ensures .0 (c .if3 .taken))
+    (λ c. search needs)
+    (λ c κs. search needs)
+    (λ c. c .before .same4 .ensures .0 (c .if4 .taken))
     (λ c.
-    let third = c .before in
+    let fourth = c .before in
+    let third = fourth .before .before .before in
     let second = third .before .before .before in
     let first = second .before .before .before in
     unknown-ask
     (refuted (first .same .result) (second .before .before .if1 .left) (first .same .ensures .1))
     (refuted (second .same2 .result) (third .before .before .if2 .left) (second .same2 .ensures .1))
-    (refuted (third .same3 .result) (c .if3 .left) (third .same3 .ensures .1))))
+    (refuted (third .same3 .result) (fourth .before .before .if3 .left) (third .same3 .ensures .1))
+    (refuted (fourth .same4 .result) (c .if4 .left) (fourth .same4 .ensures .1))))
