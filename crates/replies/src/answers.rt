@@ -2,11 +2,10 @@
 ghost use mathlib.Core.Path.{_≡_};
 ghost use Prim.Native.Nat.{_+_, _<_, _≤_};
 ghost use lib.ListN.{length, take};
-ghost use Rattle.report.specs.Line.{judgeLine};
 ghost use Rattle.report.specs.Writing.{Wrote};
 ghost use Rattle.requests.specs.Request.{RequestOf};
 ghost use Rattle.requests.specs.Sent.{WholeIn};
-ghost use Rattle.replies.specs.Reply.{playLine, outcomeLine, replyOf};
+ghost use Rattle.replies.specs.Reply.{verdictLine, playLine, outcomeLine, replyOf};
 ghost use Rattle.replies.specs.Answers.{AnswerOf, gatheredAs, GatheredFrom};
 ghost use Rattle.replies.specs.Lent.{FilledFrom};
 use crate::lent::fill;
@@ -17,6 +16,7 @@ use libc::STDOUT_FILENO;
 use report::one_if;
 use report::report;
 use report::tell;
+use report::tell_all;
 use report::write_line;
 use requests::Ask;
 use requests::Request;
@@ -48,16 +48,27 @@ fn narrow(n: usize) -> u32
     n as u32
 }
 
-// Judges the sheet with a workspace that was filled, and writes the reply.
-fn write_judge(text: &[u8], workspace: &mut [u32], replies: &mut [u8], at: usize) -> usize
+// Judges the sheet with a workspace that was filled, and writes the reply: the judging program's line, or all counts.
+fn write_judge(
+    text: &[u8],
+    workspace: &mut [u32],
+    all: bool,
+    replies: &mut [u8],
+    at: usize,
+) -> usize
     requires { ⌜ FilledFrom 0 (now workspace) × (at + 11077 ≤ length (now replies)) ⌝ }
-    ensures { λ r. ⌜ Wrote (judgeLine (length (now (workspace .entry))) (now (text .entry))) (now (replies .entry)) at (now (replies .exit)) r ⌝ }
+    ensures { λ r. ⌜ Wrote (verdictLine all (length (now (workspace .entry))) (now (text .entry))) (now (replies .entry)) at (now (replies .exit)) r ⌝ }
 {
     let verdict = judge(text, workspace);
     if !workspace_right(workspace) {
         return say_memory(replies, at);
     }
-    report(replies, at, verdict)
+    if !all {
+        return report(replies, at, verdict);
+    }
+    let told = tell_all(verdict);
+    let number = told[0];
+    write_line(replies, at, number, &told[1..], &[])
 }
 
 // Plays the cells on the sheet with memory that was filled, and writes the reply.
@@ -116,12 +127,18 @@ fn write_outcome(
 }
 
 // Fills the lent memory, and judges the sheet.
-fn answer_judge(text: &[u8], workspace: &mut [u32], replies: &mut [u8], at: usize) -> usize
+fn answer_judge(
+    text: &[u8],
+    workspace: &mut [u32],
+    all: bool,
+    replies: &mut [u8],
+    at: usize,
+) -> usize
     requires { ⌜ at + 11077 ≤ length (now replies) ⌝ }
-    ensures { λ r. ⌜ Wrote (judgeLine (length (now (workspace .entry))) (now (text .entry))) (now (replies .entry)) at (now (replies .exit)) r ⌝ }
+    ensures { λ r. ⌜ Wrote (verdictLine all (length (now (workspace .entry))) (now (text .entry))) (now (replies .entry)) at (now (replies .exit)) r ⌝ }
 {
     fill(workspace);
-    write_judge(text, workspace, replies, at)
+    write_judge(text, workspace, all, replies, at)
 }
 
 // Fills the lent memory, and plays the cells.
@@ -178,7 +195,7 @@ fn answer_lent(
     let work = request.work;
     let lent = request.room;
     match ask {
-        Ask::Judge => answer_judge(text, &mut workspace[..work], replies, at),
+        Ask::Judge { all } => answer_judge(text, &mut workspace[..work], all, replies, at),
         Ask::Play => answer_play(
             text,
             &numbers[3..count],

@@ -12,4 +12,4 @@ answer-judge-spec =
     (λ c κs. search needs)
     (λ c. search needs)
     (λ c. search needs)
-    (λ c. judge-as _ (search needs) (c .before .before .before .before .write-judge .ensures)))
+    (λ c. judge-as _ (search needs) _ (c .before .before .before .before .write-judge .ensures)))

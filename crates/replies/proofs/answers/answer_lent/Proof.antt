@@ -9,8 +9,8 @@ use Rattle.replies.proofs.Replying.{take-short, replied-judge, replied-
 use Rattle.replies.proofs.answers.answer_lent.Statement.{statement}
 use Rattle.replies.proofs.answers.answer_lent.Tie as tie
 
-enum-told : tie.Need-enum-told
-enum-told c = search needs
+enum-known-ask : tie.Need-enum-known-ask
+enum-known-ask c = search needs
 
 slice-relend-prefix-answer-judge : tie.Need-slice-relend-prefix-answer-judge
 slice-relend-prefix-answer-judge c = search needs
@@ -21,14 +21,14 @@ slice-aggregate-answer-judge c = sym (length-take-le _ _ (search needs))
 answer-judge-requires : tie.Need-answer-judge-requires
 answer-judge-requires c κs = search needs
 
-enum-told-2 : tie.Need-enum-told-2
-enum-told-2 c = search needs
+enum-told : tie.Need-enum-told
+enum-told c = search needs
 
 sub-answer-play : tie.Need-sub-answer-play
-sub-answer-play c = play-counted _ (c .before .before .before .before .before .before .before .pre .0 .0 .counted) (c .enum-told2 .given .1)
+sub-answer-play c = play-counted _ (c .before .before .before .before .before .before .before .pre .0 .0 .counted) (c .enum-told .given .1)
 
 part-answer-play-start : tie.Need-part-answer-play-start
-part-answer-play-start c = play-counted _ (c .before .before .before .before .before .before .before .pre .0 .0 .counted) (c .enum-told2 .given .1)
+part-answer-play-start c = play-counted _ (c .before .before .before .before .before .before .before .pre .0 .0 .counted) (c .enum-told .given .1)
 
 part-answer-play-end : tie.Need-part-answer-play-end
 part-answer-play-end c = count-within (now (c .before .before .before .before .before .before .before .args .numbers)) (c .before .before .before .before .before .before .before .pre .0 .0)
@@ -48,8 +48,8 @@ slice-aggregate-answer-play-2 c = sym (length-take-le _ _ (search needs))
 answer-play-requires : tie.Need-answer-play-requires
 answer-play-requires c κs = (take-short (c .before .before .before .before .before .before .before .before .before .before .before .args .request .room) 1000 _ (omega arith), search needs)
 
-enum-told-3 : tie.Need-enum-told-3
-enum-told-3 c = search needs
+enum-told-2 : tie.Need-enum-told-2
+enum-told-2 c = search needs
 
 shared-slice-read-answer-outcome : tie.Need-shared-slice-read-answer-outcome
 shared-slice-read-answer-outcome c = search needs
@@ -76,7 +76,7 @@ same-length-2 : tie.Need-same-length-2
 same-length-2 c = search needs
 
 returns : tie.Need-returns
-returns c = replied-judge (now (c .before .before .before .before .before .before .before .before .before .before .before .before .before .before .args .numbers)) _ (now (c .before .before .before .before .before .before .before .before .before .before .before .before .before .before .args .workspace)) (c .before .before .before .before .before .before .before .before .before .before .before .before .before .before .pre .0 .0) (omega arith) (c .before .before .before .before .before .before .before .enum-told .given .1) (c .before .before .before .before .answer-judge .ensures)
+returns c = replied-judge (now (c .before .before .before .before .before .before .before .before .before .before .before .before .before .before .before .args .numbers)) _ (now (c .before .before .before .before .before .before .before .before .before .before .before .before .before .before .before .args .workspace)) (c .before .before .before .before .before .before .before .before .before .before .before .before .before .before .before .pre .0 .0) (omega arith) _ (c .before .before .before .before .before .before .before .before .ask .given .1) (c .before .before .before .before .answer-judge .ensures)
 
 same-length-3 : tie.Need-same-length-3
 same-length-3 c = search needs
@@ -88,7 +88,7 @@ same-length-5 : tie.Need-same-length-5
 same-length-5 c = search needs
 
 returns-2 : tie.Need-returns-2
-returns-2 c = replied-play (now (c .before .before .before .before .before .before .before .before .before .before .before .before .before .before .before .before .before .before .args .numbers)) _ (now (c .before .before .before .before .before .before .before .before .before .before .before .before .before .before .before .before .before .before .args .workspace)) (c .before .before .before .before .before .before .before .before .before .before .before .before .before .before .before .before .before .before .pre .0 .0) (omega arith) (now (c .before .before .before .before .before .before .before .before .before .before .before .before .before .before .before .before .before .before .args .room)) (omega arith) (c .before .before .before .before .before .before .before .before .before .before .before .enum-told2 .given .1) (c .before .before .before .before .before .before .answer-play .ensures)
+returns-2 c = replied-play (now (c .before .before .before .before .before .before .before .before .before .before .before .before .before .before .before .before .before .before .args .numbers)) _ (now (c .before .before .before .before .before .before .before .before .before .before .before .before .before .before .before .before .before .before .args .workspace)) (c .before .before .before .before .before .before .before .before .before .before .before .before .before .before .before .before .before .before .pre .0 .0) (omega arith) (now (c .before .before .before .before .before .before .before .before .before .before .before .before .before .before .before .before .before .before .args .room)) (omega arith) (c .before .before .before .before .before .before .before .before .before .before .before .enum-told .given .1) (c .before .before .before .before .before .before .answer-play .ensures)
 
 same-length-6 : tie.Need-same-length-6
 same-length-6 c = search needs
@@ -100,17 +100,17 @@ same-length-8 : tie.Need-same-length-8
 same-length-8 c = search needs
 
 returns-3 : tie.Need-returns-3
-returns-3 c = replied-outcome (now (c .before .before .before .before .before .before .before .before .before .before .before .before .before .before .before .before .before .before .args .numbers)) _ (now (c .before .before .before .before .before .before .before .before .before .before .before .before .before .before .before .before .before .before .args .workspace)) (c .before .before .before .before .before .before .before .before .before .before .before .before .before .before .before .before .before .before .pre .0 .0) (omega arith) (now (c .before .before .before .before .before .before .before .before .before .before .before .before .before .before .before .before .before .before .args .room)) (omega arith) (c .before .before .before .before .before .before .before .before .before .before .before .enum-told3 .given .1) (c .before .before .before .before .before .before .answer-outcome .ensures)
+returns-3 c = replied-outcome (now (c .before .before .before .before .before .before .before .before .before .before .before .before .before .before .before .before .before .before .args .numbers)) _ (now (c .before .before .before .before .before .before .before .before .before .before .before .before .before .before .before .before .before .before .args .workspace)) (c .before .before .before .before .before .before .before .before .before .before .before .before .before .before .before .before .before .before .pre .0 .0) (omega arith) (now (c .before .before .before .before .before .before .before .before .before .before .before .before .before .before .before .before .before .before .args .room)) (omega arith) (c .before .before .before .before .before .before .before .before .before .before .before .enum-told2 .given .1) (c .before .before .before .before .before .before .answer-outcome .ensures)
 
 pub answer-lent-spec : {M : Type 1} → statement M
 answer-lent-spec =
     tie.close
     (tie.spec
-    enum-told
+    enum-known-ask
     slice-relend-prefix-answer-judge
     slice-aggregate-answer-judge
     answer-judge-requires
-    enum-told-2
+    enum-told
     sub-answer-play
     part-answer-play-start
     part-answer-play-end
@@ -119,7 +119,7 @@ answer-lent-spec =
     slice-relend-prefix-answer-play-2
     slice-aggregate-answer-play-2
     answer-play-requires
-    enum-told-3
+    enum-told-2
     shared-slice-read-answer-outcome
     slice-relend-prefix-answer-outcome
     slice-aggregate-answer-outcome
