@@ -61,7 +61,9 @@ enum {
   /* How many numbers the workspace must have at least. */
   SORBITANQUE_WORKSPACE = 8192,
   /* How many numbers the details have. */
-  SORBITANQUE_DETAILS = 7
+  SORBITANQUE_DETAILS = 7,
+  /* How many numbers the details of counts have. */
+  SORBITANQUE_COUNTS_DETAILS = 9
 };
 
 /* The places of the details. */
@@ -70,10 +72,13 @@ enum {
   SORBITANQUE_LINE = 1,
   SORBITANQUE_CELL = 2,
   SORBITANQUE_INDEX = 3,
-  /* of judge */
+  /* of judge and of counts */
   SORBITANQUE_MOVES = 4,
   SORBITANQUE_WAITS = 5,
   SORBITANQUE_OUTCOMES = 6,
+  /* of counts */
+  SORBITANQUE_PASSED = 7,
+  SORBITANQUE_IDLE = 8,
   /* of play */
   SORBITANQUE_PLACE = 4,
   SORBITANQUE_ANSWERS = 5,
@@ -91,7 +96,7 @@ enum {
      long as each has a room, a workspace and details of its own.
    - Of the nine sheets measured (docs/FIGURES.md), one of depth 127 and one with 141 choices in an outcome among them, none took a call more than 68 KB of
      stack; no bound is proved. Give it 128 KB.
-   - All seven details are written by every call; line, cell and index are 0 where the verdict's sentence does not name them.
+   - All details, seven or in counts nine, are written by every call; line, cell and index are 0 where the verdict's sentence does not name them.
    - The first 8,192 numbers of the workspace are 0 after every call and the rest as it was; after verdict 1 all of it is as it was.
    - The room changes on verdict 0 alone, and only in as many first places as there are answers or cells. */
 
@@ -99,6 +104,12 @@ enum {
 void sorbitanque_judge(const uint8_t *sheet, size_t sheet_length,
                        uint32_t *workspace, size_t workspace_length,
                        uint32_t details[SORBITANQUE_DETAILS]);
+
+/* Judges a sheet as sorbitanque_judge does; the details are judge's seven, and two counts more, both 0 on a refusal: passed, which is 0 until a later
+   release, and idle, how many of the moves aren't live (such a move is never given as an answer). */
+void sorbitanque_counts(const uint8_t *sheet, size_t sheet_length,
+                        uint32_t *workspace, size_t workspace_length,
+                        uint32_t details[SORBITANQUE_COUNTS_DETAILS]);
 
 /* Plays an accepted sheet against a list of opponent cell numbers and writes the answers into the room; the details are verdict,
    line, cell, index, the place of the refused move (from 1, else 0), the number of answers, and 1 where play is over, else 0. */

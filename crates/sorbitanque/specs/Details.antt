@@ -1,4 +1,4 @@
--- The seven numbers that each entry tells, and what it promises with them.
+-- The numbers that each function tells, and what it promises with them.
 use mathlib.Core.Path.{_≡_}
 use Prim.Native.Nat.{ℕ}
 use mathlib.Core.List.{List, [], _∷_}
@@ -9,6 +9,7 @@ use Rattle.rules.specs.Verdict.{told}
 use Rattle.rules.specs.Entries.{judge, PlayReply, play, OutcomeReply, outcome, workspaceAfter, roomAfter}
 use Rattle.rules.specs.declared.Told.{Told}
 use Rattle.rules.specs.declared.Verdict.{Verdict}
+use Rattle.report.specs.All.{allNumbers}
 
 -- verdict, line, cell, index, and three more
 abbrev pub seven : Told → (x y z : ℕ) → List ℕ
@@ -18,6 +19,10 @@ seven t x y z = t .number ∷ t .line ∷ t .cell ∷ t .index ∷ x ∷ y ∷ z
 unfoldable pub judgeDetails : Verdict → List ℕ
 judgeDetails v = seven (told v) (told v .counts .moves) (told v .counts .waits) (told v .counts .outcomes)
 
+-- counts: all counts
+unfoldable pub countsDetails : Verdict → List ℕ
+countsDetails v = allNumbers (told v)
+
 -- play: the place of the refused move, the number of answers, and 1 where play is over
 unfoldable pub playDetails : PlayReply → List ℕ
 playDetails r = seven (told (r .verdict)) (r .place) (length (r .answers)) (oneIf (r .over))
@@ -26,9 +31,9 @@ playDetails r = seven (told (r .verdict)) (r .place) (length (r .answers)) (oneI
 unfoldable pub outcomeDetails : OutcomeReply → List ℕ
 outcomeDetails r = seven (told (r .verdict)) (length (r .cells)) 0 0
 
--- What each entry promises, for every input: its full reply, and the later contents of all memory lent to it
-pub record JudgeTold (workspace : List ℕ) (t : Bytes) (workspace-later details : List ℕ) : Type 0 where
-  pub reply : details ≡ judgeDetails (judge (length workspace) t)
+-- What each function promises, for every input: its full reply, and the later contents of all memory lent to it
+pub record JudgeTold (details-of : Verdict → List ℕ) (workspace : List ℕ) (t : Bytes) (workspace-later details : List ℕ) : Type 0 where
+  pub reply : details ≡ details-of (judge (length workspace) t)
   pub memory : workspace-later ≡ workspaceAfter workspace
 
 pub record PlayTold (workspace : List ℕ) (t : Bytes) (moves room : List ℕ) (workspace-later room-later details : List ℕ) : Type 0 where

@@ -1,8 +1,9 @@
-// sorbitanque: the three entries for programs in other languages, on numbers and slices. Each puts the numbers of its reply into
-// seven places that are lent. It sees rules, sheet and report.
-ghost use Rattle.sorbitanque.specs.Details.{JudgeTold, OutcomeTold, PlayTold};
+// sorbitanque: the three entries for programs in other languages, on numbers and slices. Each function puts the numbers of its reply into
+// places that are lent: seven, or nine with all counts. It sees rules, sheet and report.
+ghost use Rattle.sorbitanque.specs.Details.{judgeDetails, countsDetails, JudgeTold, OutcomeTold, PlayTold};
 use report::one_if;
 use report::tell;
+use report::tell_all;
 use sheet::judge;
 use sheet::outcome;
 use sheet::play;
@@ -10,7 +11,7 @@ use sheet::play;
 // Judges a sheet: verdict, line, cell, index, moves, waits, outcomes.
 #[no_mangle]
 pub extern "C" fn sorbitanque_judge(sheet: &[u8], workspace: &mut [u32], details: &mut [u32; 7])
-    ensures { λ _. ⌜ JudgeTold (now (workspace .entry)) (now (sheet .entry)) (now (workspace .exit)) (now (details .exit)) ⌝ }
+    ensures { λ _. ⌜ JudgeTold judgeDetails (now (workspace .entry)) (now (sheet .entry)) (now (workspace .exit)) (now (details .exit)) ⌝ }
 {
     let told = tell(judge(sheet, workspace));
     let counts = told.counts;
@@ -23,6 +24,14 @@ pub extern "C" fn sorbitanque_judge(sheet: &[u8], workspace: &mut [u32], details
         counts.waits,
         counts.outcomes,
     ];
+}
+
+// Judges a sheet: verdict, line, cell, index, moves, waits, outcomes, passed, idle.
+#[no_mangle]
+pub extern "C" fn sorbitanque_counts(sheet: &[u8], workspace: &mut [u32], details: &mut [u32; 9])
+    ensures { λ _. ⌜ JudgeTold countsDetails (now (workspace .entry)) (now (sheet .entry)) (now (workspace .exit)) (now (details .exit)) ⌝ }
+{
+    *details = tell_all(judge(sheet, workspace));
 }
 
 // Lists the cells of an outcome of a sheet: verdict, line, cell, index, cells, 0, 0.
