@@ -18,15 +18,17 @@ use Rattle.rules.specs.declared.Verdict.{Verdict}
 use Rattle.rules.specs.declared.Verdict.the-variants.{OnSetUp, NotApart, NotElusive, TooManyOutcomes, SameBranch}
 use Rattle.rules.proofs.Lists.{none-long}
 use Rattle.rules.proofs.SetUp.{either-side}
-use Rattle.rules.proofs.Given.{bare-free}
+use Rattle.rules.specs.Plain.{AllElusive}
+use Rattle.rules.proofs.Given.{bare-free, none-elusive}
+use Rattle.rules.proofs.Living.{idle-few}
 use Rattle.cells.specs.Cells.{held, Holds}
-use Rattle.nodes.specs.Nodes.{limited}
 use Rattle.nodes.specs.Table.{countIn}
 use Rattle.nodes.specs.Sheets.{HoldsSheet, HoldsSetUp}
 use Rattle.nodes.specs.declared.SetUp.{SetUp}
-use Rattle.nodes.proofs.Trees.{waits-count}
+use Rattle.nodes.proofs.Sheets.{living-count}
 use Rattle.fair.specs.Faults.{faultSeen, FaultLow, FaultFound}
 use Rattle.fair.specs.declared.Fault as answered
+use Rattle.live.specs.Thinning.{KeepsLive}
 use Rattle.judging.specs.Checked.{fromApart, fromTwice, fromElusive, fromCount, Passed, Tells}
 use Rattle.judging.specs.declared.FairRead.{FairRead}
 
@@ -41,12 +43,12 @@ module _ (verdict : ℕ → ℕ → Verdict) (after : Result Sheet) where
       rw (found, l)
 
   -- it was not: the checks after it decide
-  no-fault : (s : Sheet) (f : Option Fault) (r : answered.Fault) → FaultFound s f r → r ≡ answered.the-variants.Nothing
-      → (a : FairRead) → Tells s after a → Tells s (refuseFault verdict f >>= λ u. after) a
+  no-fault : (v : List ℕ) (b : Board) (s : Sheet) (f : Option Fault) (r : answered.Fault) → FaultFound s f r → r ≡ answered.the-variants.Nothing
+      → (a : FairRead) → Tells v b s after a → Tells v b s (refuseFault verdict f >>= λ u. after) a
   unfolding refuseFault _>>=_
-  no-fault s f r h e a t =
+  no-fault v b s f r h e a t =
       let clean : f ≡ none = sym (h .seen) ∙ ap (faultSeen (s .root .line)) e in
-      subst⁻¹ (λ (z : Result Sheet). Tells s z a) (ap (λ (o : Option Fault). refuseFault verdict o >>= λ u. after) clean) t
+      subst⁻¹ (λ (z : Result Sheet). Tells v b s z a) (ap (λ (o : Option Fault). refuseFault verdict o >>= λ u. after) clean) t
 
 -- the two sets together are all set-up stones
 pub all-stones : {b : Board} {s : Sheet} {u : SetUp} → HoldsSetUp b s u → (rows : List ℕ) → ((x : ℕ) → held b rows x ≡ (held b (u .own .rows) x || held b (u .opp .rows) x))
@@ -69,9 +71,9 @@ module _ {t : List ℕ} {b : Board} {s : Sheet} (h : HoldsSheet t b s) where
       unfolding fair
       not-free-told i c line e l = at-fault OnSetUp _ s (firstOnSetUp s) r i c line k e (on-line i line l)
 
-      pub free-told : r ≡ answered.the-variants.Nothing → (a : FairRead) → Tells s (fromApart s) a → Tells s (fair s) a
+      pub free-told : r ≡ answered.the-variants.Nothing → (v : List ℕ) (a : FairRead) → Tells v b s (fromApart s) a → Tells v b s (fair s) a
       unfolding fair fromApart fromTwice fromElusive fromCount
-      free-told e a = no-fault OnSetUp (fromApart s) s (firstOnSetUp s) r k e a
+      free-told e v a = no-fault OnSetUp (fromApart s) v b s (firstOnSetUp s) r k e a
 
     -- 10
     module _ (r : answered.Fault) (k : FaultFound s (firstNotApart s) r) where
@@ -79,9 +81,9 @@ module _ {t : List ℕ} {b : Board} {s : Sheet} (h : HoldsSheet t b s) where
       unfolding fromApart
       not-apart-told i c line e l = at-fault NotApart _ s (firstNotApart s) r i c line k e (on-line i line l)
 
-      pub apart-told : r ≡ answered.the-variants.Nothing → (a : FairRead) → Tells s (fromTwice s) a → Tells s (fromApart s) a
+      pub apart-told : r ≡ answered.the-variants.Nothing → (v : List ℕ) (a : FairRead) → Tells v b s (fromTwice s) a → Tells v b s (fromApart s) a
       unfolding fromApart
-      apart-told e a = no-fault NotApart (fromTwice s) s (firstNotApart s) r k e a
+      apart-told e v a = no-fault NotApart (fromTwice s) v b s (firstNotApart s) r k e a
 
     -- 24
     module _ (r : answered.Fault) (k : FaultFound s (firstTwice s) r) where
@@ -89,9 +91,9 @@ module _ {t : List ℕ} {b : Board} {s : Sheet} (h : HoldsSheet t b s) where
       unfolding fromTwice
       twice-told i c line e l = at-fault (λ line cell. SameBranch line) _ s (firstTwice s) r i c line k e (on-line i line l)
 
-      pub single-told : r ≡ answered.the-variants.Nothing → (a : FairRead) → Tells s (fromElusive s) a → Tells s (fromTwice s) a
+      pub single-told : r ≡ answered.the-variants.Nothing → (v : List ℕ) (a : FairRead) → Tells v b s (fromElusive s) a → Tells v b s (fromTwice s) a
       unfolding fromTwice
-      single-told e a = no-fault (λ line cell. SameBranch line) (fromElusive s) s (firstTwice s) r k e a
+      single-told e v a = no-fault (λ line cell. SameBranch line) (fromElusive s) v b s (firstTwice s) r k e a
 
     -- 11
     module _ (r : answered.Fault) (k : FaultFound s (firstNotElusive s) r) where
@@ -99,29 +101,33 @@ module _ {t : List ℕ} {b : Board} {s : Sheet} (h : HoldsSheet t b s) where
       unfolding fromElusive
       not-elusive-told i c line e l = at-fault NotElusive _ s (firstNotElusive s) r i c line k e (on-line i line l)
 
-      pub elusive-told : r ≡ answered.the-variants.Nothing → (a : FairRead) → Tells s (fromCount s) a → Tells s (fromElusive s) a
+      pub elusive-told : r ≡ answered.the-variants.Nothing → (v : List ℕ) (a : FairRead) → Tells v b s (fromCount s) a → Tells v b s (fromElusive s) a
       unfolding fromElusive
-      elusive-told e a = no-fault NotElusive (fromCount s) s (firstNotElusive s) r k e a
+      elusive-told e v a = no-fault NotElusive (fromCount s) v b s (firstNotElusive s) r k e a
 
     -- where the first node stands on line 2 no stone was set up, so no move is on one
-    pub none-told : first ≡ 2 → (a : FairRead) → Tells s (fromApart s) a → Tells s (fair s) a
+    pub none-told : first ≡ 2 → (v : List ℕ) (a : FairRead) → Tells v b s (fromApart s) a → Tells v b s (fair s) a
     unfolding fair fromApart fromTwice fromElusive fromCount refuseFault _>>=_
-    none-told e a t =
+    none-told e v a t =
         let none-set-up : length (s .set-up) ≡ 0 = omega (arith, on, h .well .first-line) in
-        subst⁻¹ (λ (z : Result Sheet). Tells s z a) (ap (λ (o : Option Fault). refuseFault OnSetUp o >>= λ u. fromApart s) (bare-free s (none-long (s .set-up) none-set-up))) t
+        subst⁻¹ (λ (z : Result Sheet). Tells v b s z a) (ap (λ (o : Option Fault). refuseFault OnSetUp o >>= λ u. fromApart s) (bare-free s (none-long (s .set-up) none-set-up))) t
 
-  -- 12: the table has the count of outcomes, kept at one past the most
-  sheet-count : countIn t 0 ≡ limited (outcomeCount s)
-  unfolding outcomeCount
-  sheet-count = h .root .here .count ∙ ap (λ (n : ℕ). limited n) (waits-count (s .root .waits))
+-- 11 is not given: the sheet is elusive
+pub is-elusive : (s : Sheet) (r : answered.Fault) → FaultFound s (firstNotElusive s) r → r ≡ answered.the-variants.Nothing → AllElusive s
+is-elusive s r k e = none-elusive s (sym (k .seen) ∙ ap (faultSeen (s .root .line)) e)
 
-  module _ (count : ℕ) (e : count ≡ countIn t 0) where
-    pub many-told : mostOutcomes < count → fromCount s ≡ refused TooManyOutcomes
-    unfolding fromCount refuseIf _>>=_
-    many-told l = rw (lt-ltb mostOutcomes (outcomeCount s) (omega (arith, e, sheet-count)))
+-- 12: the table has the count of outcomes, kept at one past the most
+module _ {t : List ℕ} {b : Board} {s : Sheet} {idle : ℕ} (h : KeepsLive t b s idle) (count : ℕ) (e : count ≡ countIn t 0) where
+  pub many-told : mostOutcomes < count → fromCount s ≡ refused TooManyOutcomes
+  unfolding fromCount refuseIf _>>=_
+  many-told l = rw (lt-ltb mostOutcomes (outcomeCount s) (omega (arith, e, living-count (h .holds))))
 
-    pub few-told : count ≤ mostOutcomes → Passed s (fromCount s) count
-    unfolding fromCount refuseIf _>>=_
-    few-told l =
-        let same : count ≡ outcomeCount s = omega (arith, e, sheet-count) in
-        record { passes = rw (le-ltb mostOutcomes (outcomeCount s) (omega (arith, same))); counted = same; few = l }
+  pub few-told : count ≤ mostOutcomes → Passed t b s (fromCount s) count idle
+  unfolding fromCount refuseIf _>>=_
+  few-told l =
+      let same : count ≡ outcomeCount s = omega (arith, e, living-count (h .holds)) in
+      record { passes = rw (le-ltb mostOutcomes (outcomeCount s) (omega (arith, same))); counted = same; few = l; keeps = h }
+
+-- there are no more idle moves than nodes
+pub idle-low : {t : List ℕ} {b : Board} {s : Sheet} {idle : ℕ} → KeepsLive t b s idle → idle ≤ mostNodes
+idle-low {s = s} h = omega (arith, h .idle-is, idle-few s, h .holds .well .few-nodes)

@@ -1,6 +1,7 @@
 -- The checks of a sheet, each with those after it, and what a check tells.
 use mathlib.Core.Path.{_≡_}
 use Prim.Native.Nat.{ℕ, _≤_}
+use mathlib.Core.List.{List}
 use lib.Dec.{ltb}
 use Rattle.rules.specs.Sizes.{mostOutcomes}
 use Rattle.rules.specs.Tree.{Sheet}
@@ -8,7 +9,9 @@ use Rattle.rules.specs.Fair.{firstNotApart, firstTwice, firstNotElusive}
 use Rattle.rules.specs.Reading.{Result, refused, got}
 use Rattle.rules.specs.Outcomes.{outcomeCount}
 use Rattle.rules.specs.Entries.{_>>=_, refuseIf, refuseFault, fair, satisfying}
+use Rattle.rules.specs.declared.Board.{Board}
 use Rattle.rules.specs.declared.Verdict.the-variants.{NotApart, NotElusive, TooManyOutcomes, SameBranch}
+use Rattle.live.specs.Thinning.{KeepsLive}
 use Rattle.judging.specs.declared.FairRead.{FairRead}
 use Rattle.judging.specs.declared.FairRead.the-variants as FairRead
 
@@ -37,13 +40,19 @@ fromApart s = do
 abbrev pub passing : Sheet → Result Sheet
 passing s = fair s >>= satisfying
 
--- the sheet passes a check, and has so many outcomes
-pub record Passed (s : Sheet) (check : Result Sheet) (count : ℕ) : Type 0 where
+-- some sheet is held without its moves that aren't live, which are so many
+pub record SomeLiving (t : List ℕ) (b : Board) (idle : ℕ) : Type 0 where
+  pub sheet : Sheet
+  pub keeps : KeepsLive t b sheet idle
+
+-- the sheet passes a check, and has so many outcomes; it is held without its moves that aren't live, which are so many
+pub record Passed (t : List ℕ) (b : Board) (s : Sheet) (check : Result Sheet) (count idle : ℕ) : Type 0 where
   pub passes : check ≡ got s
   pub counted : count ≡ outcomeCount s
   pub few : count ≤ mostOutcomes
+  pub keeps : KeepsLive t b s idle
 
--- what a check tells of a sheet: that, or the refusal
-abbrev pub Tells : Sheet → Result Sheet → FairRead → Type 0
-Tells s check (FairRead.Got count) = Passed s check count
-Tells s check (FairRead.Refused v) = check ≡ refused v
+-- what a check tells of a sheet, and leaves in the table: that, or the refusal
+abbrev pub Tells : List ℕ → Board → Sheet → Result Sheet → FairRead → Type 0
+Tells t b s check (FairRead.Got count idle) = Passed t b s check count idle
+Tells t b s check (FairRead.Refused v) = check ≡ refused v

@@ -1,5 +1,5 @@
 // judging: the checks of a sheet that the table holds, one function a check, and the verdict with its counts. It sees rules, cells,
-// nodes, fair and outcomes.
+// nodes, fair, live and outcomes.
 ghost use mathlib.Core.Path.{_≡_};
 ghost use Prim.Native.Nat.{_+_, _<_, _≤_};
 ghost use Rattle.rules.specs.Sizes.{mostNodes, mostBytes};
@@ -7,12 +7,14 @@ ghost use Rattle.rules.specs.Tree.{Sheet, moveCount};
 ghost use Rattle.rules.specs.Entries.{fair, judged};
 ghost use Rattle.rules.specs.declared.Board as declared;
 ghost use Rattle.nodes.specs.Sheets.{HoldsSheet, SomeSheet, HoldsWhole, SomeWhole};
-ghost use Rattle.judging.specs.Checked.{fromApart, fromTwice, fromElusive, fromCount, passing, Tells};
+ghost use Rattle.live.specs.Thinning.{KeepsLive};
+ghost use Rattle.judging.specs.Checked.{fromApart, fromTwice, fromElusive, fromCount, passing, SomeLiving, Tells};
 use fair::Fault;
 use fair::branch_twice;
 use fair::not_apart;
 use fair::not_elusive;
 use fair::on_set_up;
+use live::keep_live;
 use nodes::SetUp;
 use nodes::count_at;
 use nodes::end_at;
@@ -24,9 +26,9 @@ use rules::Counts;
 use rules::Player;
 use rules::Verdict;
 
-// A sheet that is fair, and its number of outcomes; or the refusal.
+// A sheet that is fair, its number of outcomes, and how many of its moves aren't live; or the refusal.
 pub enum FairRead {
-    Got { outcomes: u32 },
+    Got { outcomes: u32, idle: u32 },
     Refused { verdict: Verdict },
 }
 
@@ -38,10 +40,10 @@ fn line_of(node: usize, first: u32) -> u32
     node as u32 + first
 }
 
-// 12: more than 65,536 outcomes.
-fn few_on(table: &[u32], board: Board) -> FairRead
-    requires { ⌜ SomeSheet (now table) board ⌝ }
-    ensures { λ r. ⌜ ((s : Sheet) → HoldsSheet (now (table .entry)) board s → Tells s (fromCount s) r) ⌝ }
+// 12: more than 65,536 outcomes, of a sheet whose table has its live moves alone.
+fn few_on(table: &[u32], board: Board, idle: usize) -> FairRead
+    requires { ⌜ SomeLiving (now table) board idle ⌝ }
+    ensures { λ r. ⌜ ((s : Sheet) → KeepsLive (now (table .entry)) board s idle → Tells (now (table .entry)) board s (fromCount s) r) ⌝ }
 {
     let outcomes = count_at(table, 0);
     if 65536 < outcomes {
@@ -51,14 +53,15 @@ fn few_on(table: &[u32], board: Board) -> FairRead
     }
     FairRead::Got {
         outcomes: outcomes as u32,
+        idle: idle as u32,
     }
 }
 
-// 11: a wait that is not elusive; and then 12.
-fn elusive_on(table: &[u32], board: Board, first: u32) -> FairRead
+// 11: a wait that is not elusive; and then, without the moves that aren't live, 12.
+fn elusive_on(table: &mut [u32], board: Board, first: u32) -> FairRead
     requires holds { ⌜ SomeSheet (now table) board ⌝ }
     requires low { ⌜ first ≤ mostBytes + 2 ⌝ }
-    ensures { λ r. ⌜ ((s : Sheet) → HoldsSheet (now (table .entry)) board s → first ≡ s .root .line → Tells s (fromElusive s) r) ⌝ }
+    ensures { λ r. ⌜ ((s : Sheet) → HoldsSheet (now (table .entry)) board s → first ≡ s .root .line → Tells (now (table .exit)) board s (fromElusive s) r) ⌝ }
 {
     if let Fault::At { node, cell } = not_elusive(table, board) {
         let line = line_of(node, first);
@@ -66,14 +69,15 @@ fn elusive_on(table: &[u32], board: Board, first: u32) -> FairRead
             verdict: Verdict::NotElusive { line, cell },
         };
     }
-    few_on(table, board)
+    let idle = keep_live(table, board);
+    few_on(table, board, idle)
 }
 
 // 24: a wait that has a branch twice; and then 11, 12.
-fn single_on(table: &[u32], board: Board, first: u32) -> FairRead
+fn single_on(table: &mut [u32], board: Board, first: u32) -> FairRead
     requires holds { ⌜ SomeSheet (now table) board ⌝ }
     requires low { ⌜ first ≤ mostBytes + 2 ⌝ }
-    ensures { λ r. ⌜ ((s : Sheet) → HoldsSheet (now (table .entry)) board s → first ≡ s .root .line → Tells s (fromTwice s) r) ⌝ }
+    ensures { λ r. ⌜ ((s : Sheet) → HoldsSheet (now (table .entry)) board s → first ≡ s .root .line → Tells (now (table .exit)) board s (fromTwice s) r) ⌝ }
 {
     if let Fault::At { node, .. } = branch_twice(table) {
         let line = line_of(node, first);
@@ -85,10 +89,10 @@ fn single_on(table: &[u32], board: Board, first: u32) -> FairRead
 }
 
 // 10: a move that is not apart; and then 24, 11, 12.
-fn apart_on(table: &[u32], board: Board, first: u32) -> FairRead
+fn apart_on(table: &mut [u32], board: Board, first: u32) -> FairRead
     requires holds { ⌜ SomeSheet (now table) board ⌝ }
     requires low { ⌜ first ≤ mostBytes + 2 ⌝ }
-    ensures { λ r. ⌜ ((s : Sheet) → HoldsSheet (now (table .entry)) board s → first ≡ s .root .line → Tells s (fromApart s) r) ⌝ }
+    ensures { λ r. ⌜ ((s : Sheet) → HoldsSheet (now (table .entry)) board s → first ≡ s .root .line → Tells (now (table .exit)) board s (fromApart s) r) ⌝ }
 {
     if let Fault::At { node, cell } = not_apart(table, board) {
         let line = line_of(node, first);
@@ -100,9 +104,9 @@ fn apart_on(table: &[u32], board: Board, first: u32) -> FairRead
 }
 
 // 20: a move on a set-up stone; and then 10, 24, 11, 12.
-fn free_on(table: &[u32], board: Board, setup: SetUp) -> FairRead
+fn free_on(table: &mut [u32], board: Board, setup: SetUp) -> FairRead
     requires { ⌜ SomeWhole (now table) board setup ⌝ }
-    ensures { λ r. ⌜ ((s : Sheet) → HoldsWhole (now (table .entry)) board setup s → Tells s (fair s) r) ⌝ }
+    ensures { λ r. ⌜ ((s : Sheet) → HoldsWhole (now (table .entry)) board setup s → Tells (now (table .exit)) board s (fair s) r) ⌝ }
 {
     let own = setup.own;
     let opp = setup.opp;
@@ -118,9 +122,9 @@ fn free_on(table: &[u32], board: Board, setup: SetUp) -> FairRead
 }
 
 // Whether the sheet in the table is fair: 20, 10, 24, 11, 12. Where the first node stands on line 2 there is no stone for 20.
-pub fn fair_sheet(table: &[u32], board: Board, setup: SetUp) -> FairRead
+pub fn fair_sheet(table: &mut [u32], board: Board, setup: SetUp) -> FairRead
     requires { ⌜ SomeWhole (now table) board setup ⌝ }
-    ensures { λ r. ⌜ ((s : Sheet) → HoldsWhole (now (table .entry)) board setup s → Tells s (fair s) r) ⌝ }
+    ensures { λ r. ⌜ ((s : Sheet) → HoldsWhole (now (table .entry)) board setup s → Tells (now (table .exit)) board s (fair s) r) ⌝ }
 {
     let first = setup.first;
     if first == 2 {
@@ -147,43 +151,42 @@ fn count_moves(table: &[u32]) -> usize
 }
 
 // Whether the sheet in the table is fair and satisfying: 20, 10, 24, 11, 12, 13.
-pub fn accept_sheet(table: &[u32], board: Board, player: Player, setup: SetUp) -> FairRead
+pub fn accept_sheet(table: &mut [u32], board: Board, player: Player, setup: SetUp) -> FairRead
     requires { ⌜ SomeWhole (now table) board setup ⌝ }
-    ensures { λ r. ⌜ ((s : Sheet) → HoldsWhole (now (table .entry)) board setup s → s .player ≡ player → Tells s (passing s) r) ⌝ }
+    ensures { λ r. ⌜ ((s : Sheet) → HoldsWhole (now (table .entry)) board setup s → s .player ≡ player → Tells (now (table .exit)) board s (passing s) r) ⌝ }
 {
     let read = fair_sheet(table, board, setup);
     match read {
         FairRead::Refused { verdict } => FairRead::Refused { verdict },
-        FairRead::Got { outcomes } => {
+        FairRead::Got { outcomes, idle } => {
             let own = setup.own;
             if let Unjoined::First { number } = first_unjoined(table, board, player, 0, own) {
                 return FairRead::Refused {
                     verdict: Verdict::NotJoined { index: number },
                 };
             }
-            FairRead::Got { outcomes }
+            FairRead::Got { outcomes, idle }
         }
     }
 }
 
-// The verdict on the sheet in the table, with its counts.
-pub fn judge_table(table: &[u32], board: Board, player: Player, setup: SetUp) -> Verdict
+// The verdict on the sheet in the table, with its counts. Moves and waits are counted on every line.
+pub fn judge_table(table: &mut [u32], board: Board, player: Player, setup: SetUp) -> Verdict
     requires { ⌜ SomeWhole (now table) board setup ⌝ }
     ensures { λ r. ⌜ ((s : Sheet) → HoldsWhole (now (table .entry)) board setup s → s .player ≡ player → r ≡ judged (passing s)) ⌝ }
 {
+    let moves = count_moves(table);
+    let waits = end_at(table, 0) - moves;
     let accepted = accept_sheet(table, board, player, setup);
     match accepted {
         FairRead::Refused { verdict } => verdict,
-        FairRead::Got { outcomes } => {
-            let moves = count_moves(table);
-            let waits = end_at(table, 0) - moves;
-            Verdict::Accepted {
-                counts: Counts {
-                    moves: moves as u32,
-                    waits: waits as u32,
-                    outcomes,
-                },
-            }
-        }
+        FairRead::Got { outcomes, idle } => Verdict::Accepted {
+            counts: Counts {
+                moves: moves as u32,
+                waits: waits as u32,
+                outcomes,
+                idle,
+            },
+        },
     }
 }
