@@ -12,6 +12,7 @@ use Rattle.rules.specs.Text.{Bytes}
 use Rattle.rules.specs.Board.{listed}
 use Rattle.rules.specs.Tree.{Sheet, stone, ownCells, atStart}
 use Rattle.rules.specs.Reading.{Result, refused, got}
+use Rattle.rules.specs.Live.{living}
 use Rattle.rules.specs.Outcomes.{outcomes, outcomeCount, outcomesOfWaits}
 use Rattle.rules.specs.Entries.{_>>=_, refuseIf, readTextUpTo, readText, readUpTo, fair, outcomeCells, OutcomeReply, named, outcome, outcomeShown, workspaceAfter, roomAfter, OutcomeKept}
 use Rattle.rules.specs.declared.Board.{Board}
@@ -22,9 +23,9 @@ use Rattle.rules.proofs.Lists.{among-append}
 use Rattle.rules.proofs.Outcomes.{nth-outcome}
 use Rattle.cells.specs.Cells.{held, Listed}
 use Rattle.cells.proofs.Smallest.{listed-same}
-use Rattle.nodes.specs.Sheets.{HoldsWhole}
+use Rattle.nodes.specs.Sheets.{HoldsSetUp}
 use Rattle.nodes.specs.declared.SetUp.{SetUp}
-use Rattle.nodes.proofs.Sheets.{sheet-weighed}
+use Rattle.nodes.proofs.Sheets.{living-weighed}
 use Rattle.outcomes.specs.Picking.{MovePick, SomeMovePick, MovePicked}
 use Rattle.judging.specs.Checked.{Passed}
 use Rattle.sheet.specs.Naming.{listing, naming, HasOutcome, SomeOutcome, NamedKept}
@@ -36,18 +37,18 @@ kept-refused o v room r e q = record { reply-is = q ∙ ap outcomeShown (sym e);
 
 -- the outcome that was picked, in the words of rules
 module _ {t : List ℕ} {b : Board} {own : List ℕ} {s : Sheet} {number : ℕ} (h : HasOutcome t b own s number) where
-  picks : MovePick b t 0 number (s .root .cell) (s .root .waits)
+  picks : MovePick b t 0 number (s .root .cell) (living (s .root .waits))
   unfolding outcomeCount
-  picks = record { at = sheet-weighed (h .holds); numbered = record { below = h .numbered; few = h .few } }
+  picks = record { at = living-weighed (h .holds); numbered = record { below = h .numbered; few = h .few } }
 
   pub picked-cells : (after : List ℕ) → MovePicked b t 0 number own after → listed b (held b after) ≡ outcomeCells s number
   unfolding outcomeCells atStart
   picked-cells after p =
-      let o = getD (outcomesOfWaits (s .root .waits)) number [] in
+      let o = getD (outcomesOfWaits (living (s .root .waits))) number [] in
       let root = stone (s .root .cell) in
       listed-same b (held b after) (among (getD (outcomes s) number []))
       (λ y i.
-      p (s .root .cell) (s .root .waits) picks .held-are y
+      p (s .root .cell) (living (s .root .waits)) picks .held-are y
       ∙ ap (λ (z : Bool). z || among (root ++ o) y) (h .own-held .same y)
       ∙ sym (among-append y (ownCells (s .set-up)) (root ++ o))
       ∙ ap (λ (l : List ℕ). among l y) (sym (append-assoc (ownCells (s .set-up)) root o) ∙ sym (nth-outcome s number (h .numbered))))
@@ -80,9 +81,9 @@ module _ {t : List ℕ} {b : Board} {own : List ℕ} {s : Sheet} {number : ℕ} 
         placed = unfold roomAfter in ap (λ (z : List ℕ). z ++ drop (length z) room) same
 
 pub some-pick : {t : List ℕ} {b : Board} {own : List ℕ} {number : ℕ} → SomeOutcome t b own number → SomeMovePick b t 0 number
-some-pick o = (o .sheet .root .cell, o .sheet .root .waits, picks (o .has))
+some-pick o = (o .sheet .root .cell, living (o .sheet .root .waits), picks (o .has))
 
--- 20, 10, 11, 12 and 18 of a held sheet
+-- 20, 10, 24, 11, 12 and 18 of a held sheet
 module _ (s : Sheet) (i room : ℕ) where
   pub naming-refused : (v : Verdict) → fair s ≡ refused v → naming s i room ≡ refused v
   unfolding naming _>>=_
@@ -141,6 +142,6 @@ pub kept-as : {o o′ : OutcomeReply} {room room′ : List ℕ} {r : Named} → 
 kept-as {o} {o′} {room} {room′} {r} e k = subst⁻¹ (λ (z : OutcomeReply). NamedKept z room r room′) e k
 
 -- a fair sheet that has the outcome
-pub has-outcome : {t : List ℕ} {b : Board} {u : SetUp} {s : Sheet} {number count : ℕ} → HoldsWhole t b u s → Passed s (fair s) count → number < count
+pub has-outcome : {t : List ℕ} {b : Board} {u : SetUp} {s : Sheet} {number count idle : ℕ} → HoldsSetUp b s u → Passed t b s (fair s) count idle → number < count
     → HasOutcome t b (u .own .rows) s number
-has-outcome h f l = record { holds = h .tree; own-held = h .set-up .stones .own-held; few = omega (arith, f .counted, f .few); numbered = omega (arith, f .counted) }
+has-outcome h f l = record { holds = f .keeps .holds; own-held = h .stones .own-held; few = omega (arith, f .counted, f .few); numbered = omega (arith, f .counted) }

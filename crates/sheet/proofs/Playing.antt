@@ -18,18 +18,25 @@ use Rattle.rules.specs.declared.Player.{Player}
 use Rattle.rules.specs.declared.Played.{Played}
 use Rattle.rules.specs.declared.Verdict.{Verdict}
 use Rattle.rules.specs.declared.Verdict.the-variants.{Done, SmallWorkspace, ShortRoom}
+use Rattle.rules.proofs.Steps.{not-refused, got-inj}
 use Rattle.answering.specs.Playing.{Playable, PlaysMoves, asPlayed}
 use Rattle.answering.specs.declared.PlayedOut.{PlayedOut}
 use Rattle.answering.specs.declared.PlayedOut.the-variants as out
 use Rattle.answering.proofs.Held.{held-playable, was-stopped, entry-reply, entry-played}
 use Rattle.nodes.specs.declared.SetUp.{SetUp}
-use Rattle.loading.specs.Held.{SheetHeld}
+use Rattle.nodes.specs.Sheets.{HoldsSheet}
+use Rattle.nodes.proofs.Sheets.{living-whole}
+use Rattle.loading.specs.Held.{SheetHeld, SheetReply, SheetKept}
+use Rattle.loading.specs.declared.Loaded.{Loaded}
+use Rattle.loading.specs.declared.SheetRead.{SheetRead}
+use Rattle.loading.specs.declared.SheetRead.the-variants as SheetRead
 use Rattle.loading.specs.Copied.{Copied}
 use Rattle.judging.specs.Checked.{passing, Tells}
 use Rattle.judging.specs.declared.FairRead.{FairRead}
 use Rattle.judging.specs.declared.FairRead.the-variants as FairRead
 use Rattle.judging.proofs.Accepting.{passed-of, refused-of}
-use Rattle.sheet.specs.Playing.{PlayedKept}
+use Rattle.live.specs.Thinning.{KeepsLive}
+use Rattle.sheet.specs.Playing.{ReadyHeld, ReadyReply, PlayedKept}
 use Rattle.sheet.proofs.Judging.{text-accepted}
 use Rattle.loading.proofs.Copying.{copied-room}
 
@@ -94,28 +101,53 @@ module _ (t : Bytes) (moves : List ℕ) (room : ℕ) where
     unfolding playOn refuseIf _>>=_
     play-rounds h = play-at w (got s) e ∙ rw (le-ltb room (length moves) h)
 
--- a text that was read
-unread : (t : Bytes) (v : Verdict) → readText t ≡ refused v → accepted leastWorkspace t ≡ refused v
+-- a text that was read, and then judged
+pub unread : (t : Bytes) (v : Verdict) → readText t ≡ refused v → accepted leastWorkspace t ≡ refused v
 unfolding _>>=_
 unread t v e = text-accepted leastWorkspace t (omega arith) ∙ ap (λ (r : Result Sheet). r >>= passing) e
 
-pub play-unread : (t : Bytes) (moves : List ℕ) (room : ℕ) (v : Verdict) → readText t ≡ refused v → play leastWorkspace t moves room ≡ refusedPlay v 0
-play-unread t moves room v e = play-refused t moves room leastWorkspace v (unread t v e)
-
-module _ (t : Bytes) {table : List ℕ} {b : Board} {p : Player} {u : SetUp} (h : SheetHeld t table b p u) where
+module _ (t : Bytes) {table : List ℕ} {b : Board} {p : Player} {u : SetUp} (h : SheetHeld t table b p u) (after : List ℕ) (a : FairRead) (k : Tells after b (h .sheet) (passing (h .sheet)) a) where
   of-passing : (r : Result Sheet) → passing (h .sheet) ≡ r → accepted leastWorkspace t ≡ r
   unfolding _>>=_
   of-passing r e = text-accepted leastWorkspace t (omega arith) ∙ ap (λ (z : Result Sheet). z >>= passing) (h .reads) ∙ e
 
-  module _ (a : FairRead) (k : Tells (h .sheet) (passing (h .sheet)) a) where
-    pub held-refused : (v : Verdict) → a ≡ FairRead.Refused v → accepted leastWorkspace t ≡ refused v
-    held-refused v e = of-passing (refused v) (refused-of (h .sheet) _ a k v e)
+  pub held-refused : (v : Verdict) → a ≡ FairRead.Refused v → accepted leastWorkspace t ≡ refused v
+  held-refused v e = of-passing (refused v) (refused-of after b (h .sheet) _ a k v e)
 
-    pub held-accepted : (count : ℕ) → a ≡ FairRead.Got count → accepted leastWorkspace t ≡ got (h .sheet)
-    held-accepted count e = of-passing (got (h .sheet)) (passed-of (h .sheet) _ a k count e .passes)
+  pub held-keeps : (count idle : ℕ) → a ≡ FairRead.Got count idle → KeepsLive after b (h .sheet) idle
+  held-keeps count idle e = passed-of after b (h .sheet) _ a k count idle e .keeps
 
-    pub playable : (count : ℕ) → a ≡ FairRead.Got count → Playable table b p (h .sheet)
-    playable count e = held-playable leastWorkspace t (h .whole .tree) (h .for) (held-accepted count e)
+  pub held-ready : (count idle : ℕ) → a ≡ FairRead.Got count idle → (whole : List ℕ) → HoldsSheet whole b (h .sheet) → ReadyHeld t whole b p u
+  held-ready count idle e whole g =
+      record {
+        held = record { sheet = h .sheet; reads = h .reads; for = h .for; whole = record { tree = g; set-up = h .whole .set-up } };
+        is-accepted = of-passing (got (h .sheet)) (passed-of after b (h .sheet) _ a k count idle e .passes);
+      }
+
+-- where no move was taken out the tree is whole, and else it is read again
+pub whole-still : {t : List ℕ} {b : Board} {s : Sheet} {idle : ℕ} → KeepsLive t b s idle → idle ≡ 0 → HoldsSheet t b s
+whole-still h e = living-whole (h .holds) (sym (h .idle-is) ∙ e)
+
+pub whole-read : {before after : List ℕ} {s : Sheet} (b : Board) (text : Bytes) (r : Loaded) → readText text ≡ got s → s .board ≡ b → SheetKept text before r after → HoldsSheet after b s
+whole-read {after = after} {s = s} b text r e on k = go (r .read) (k .reply-is)
+  where
+    go : (z : SheetRead) → SheetReply text z (r .setup) after → HoldsSheet after b s
+    go (SheetRead.Got c p) h =
+        let same : h .sheet ≡ s = got-inj (sym (h .reads) ∙ e) in
+        let tree = subst (HoldsSheet after c) same (h .whole .tree) in
+        subst (λ (z : Board). HoldsSheet after z s) (sym (tree .on) ∙ on) tree
+    go (SheetRead.Refused v) h = absurd (not-refused (sym (h .reads) ∙ e))
+
+-- what the judging told
+module _ (t : Bytes) (after : List ℕ) (r : SheetRead) (u : SetUp) (h : ReadyReply t r u after) where
+  pub ready-of : (b : Board) (p : Player) → r ≡ SheetRead.Got b p → ReadyHeld t after b p u
+  ready-of b p e = subst (λ (z : SheetRead). ReadyReply t z u after) e h
+
+  pub unready-of : (v : Verdict) → r ≡ SheetRead.Refused v → accepted leastWorkspace t ≡ refused v
+  unready-of v e = subst (λ (z : SheetRead). ReadyReply t z u after) e h
+
+pub playable : (t : Bytes) {table : List ℕ} {b : Board} {p : Player} {u : SetUp} (h : ReadyHeld t table b p u) → Playable table b p (h .held .sheet)
+playable t h = held-playable leastWorkspace t (h .held .whole .tree) (h .held .for) (h .is-accepted)
 
 -- play itself
 pub play-short : (ws : List ℕ) (t : Bytes) (moves room : List ℕ) (r : Played) → length ws < leastWorkspace → r ≡ playShown (refusedPlay SmallWorkspace 0)

@@ -14,7 +14,7 @@ use Rattle.rules.specs.declared.Board.{Board}
 use Rattle.rules.specs.declared.Named.{Named}
 use Rattle.rules.specs.declared.Verdict.the-variants.{NoSuchOutcome, ShortRoom}
 use Rattle.cells.specs.Cells.{Holds}
-use Rattle.nodes.specs.Sheets.{HoldsSheet}
+use Rattle.nodes.specs.Sheets.{HoldsLiving}
 
 -- 14, or the cells of an outcome
 unfoldable pub listing : Sheet → (number room : ℕ) → Result (List ℕ)
@@ -22,16 +22,17 @@ listing s i room = do
   _ ← refuseIf (ltb room (length (outcomeCells s i))) ShortRoom
   got (outcomeCells s i)
 
--- 20, 10, 11, 12, 18, and then that
+-- 20, 10, 24, 11, 12, 18, and then that
 unfoldable pub naming : Sheet → (number room : ℕ) → Result (List ℕ)
 naming s i room = do
   s ← fair s
   _ ← refuseIf (not (ltb i (outcomeCount s))) NoSuchOutcome
   listing s i room
 
--- the table holds a sheet that has an outcome with the number, and not too many, and the set its own set-up stones
+-- the table holds a sheet without its moves that aren't live, which has an outcome with the number, and not too many, and the set its own
+-- set-up stones
 pub record HasOutcome (t : List ℕ) (b : Board) (own : List ℕ) (s : Sheet) (number : ℕ) : Type 0 where
-  pub holds : HoldsSheet t b s
+  pub holds : HoldsLiving t b s
   pub own-held : Holds b own (ownCells (s .set-up))
   pub few : outcomeCount s ≤ mostOutcomes
   pub numbered : number < outcomeCount s

@@ -1,4 +1,4 @@
-// sheet: the public face: the three entries over a sheet's text and a lent workspace. It sees rules, cells, nodes, outcomes,
+// sheet: the public face: the three entries over a sheet's text and a lent workspace. It sees rules, cells, nodes, live, outcomes,
 // answering, loading and judging.
 ghost use mathlib.Core.Path.{_≡_};
 ghost use Prim.Native.Nat.{_≤_};
@@ -6,15 +6,17 @@ ghost use Rattle.rules.specs.Text.{Bytes};
 ghost use lib.ListN.{length, replicate};
 ghost use Rattle.rules.specs.Sizes.{mostNodes, leastWorkspace};
 ghost use Rattle.rules.specs.Tree.{Sheet};
-ghost use Rattle.nodes.specs.Sheets.{HoldsWhole, SomeWhole, HeldStones};
+ghost use Rattle.nodes.specs.Sheets.{HoldsSheet, HoldsWhole, SomeWhole, HeldStones};
+ghost use Rattle.live.specs.Thinning.{KeepsLive};
+ghost use Rattle.rules.specs.declared.Board as declared;
 ghost use Rattle.rules.specs.Answering.{start};
-ghost use Rattle.rules.specs.Entries.{judge, JudgeKept, named, outcome, outcomeShown, OutcomeKept, rounds, playedOut, refusedPlay, play, playShown, PlayKept};
+ghost use Rattle.rules.specs.Entries.{readText, judge, JudgeKept, named, outcome, outcomeShown, OutcomeKept, rounds, playedOut, refusedPlay, play, playShown, PlayKept};
 ghost use Rattle.answering.specs.Playing.{Playable, SomePlayable};
 ghost use Rattle.loading.specs.Held.{SheetHeld};
-ghost use Rattle.rules.specs.Reading.{refused};
+ghost use Rattle.rules.specs.Reading.{refused, got};
 ghost use Rattle.sheet.specs.Naming.{listing, naming, HasOutcome, SomeOutcome, NamedKept};
 ghost use Rattle.loading.specs.Copied.{Copied};
-ghost use Rattle.sheet.specs.Playing.{SomeText, PlayedKept};
+ghost use Rattle.sheet.specs.Playing.{ReadyHeld, ReadyReply, SomeReady, PlayedKept};
 use answering::PlayedOut;
 use answering::play_moves;
 use cells::Cells;
@@ -22,6 +24,7 @@ use judging::FairRead;
 use judging::accept_sheet;
 use judging::fair_sheet;
 use judging::judge_table;
+use loading::Loaded;
 use loading::SheetRead;
 use loading::clear;
 use loading::read_sheet;
@@ -90,15 +93,21 @@ fn list_outcome(table: &[u32], board: Board, own: Cells, number: usize, room: &m
     }
 }
 
-// Names an outcome of the sheet in the table: 20, 10, 11, 12, 18, 14, or done.
-fn name_outcome(table: &[u32], board: Board, setup: SetUp, number: u32, room: &mut [u32]) -> Named
+// Names an outcome of the sheet in the table: 20, 10, 24, 11, 12, 18, 14, or done.
+fn name_outcome(
+    table: &mut [u32],
+    board: Board,
+    setup: SetUp,
+    number: u32,
+    room: &mut [u32],
+) -> Named
     requires { ⌜ SomeWhole (now table) board setup ⌝ }
     ensures { λ r. ⌜ ((s : Sheet) → HoldsWhole (now (table .entry)) board setup s → NamedKept (named (naming s number (length (now (room .entry))))) (now (room .entry)) r (now (room .exit))) ⌝ }
 {
     let read = fair_sheet(table, board, setup);
     match read {
         FairRead::Refused { verdict } => unnamed(verdict),
-        FairRead::Got { outcomes } => {
+        FairRead::Got { outcomes, idle: _ } => {
             if outcomes <= number {
                 return unnamed(Verdict::NoSuchOutcome);
             }
@@ -216,7 +225,58 @@ fn play_table(
     play_apart(table, board, player, own, opp, moves, &mut answers, room)
 }
 
-// Plays the sheet in the table: 20, 10 to 13, 14, and then for each move in turn 15, 16, 17; or done.
+// Reads a sheet again where moves were taken out of the table: the answering rule looks at every line.
+fn whole_again(sheet: &[u8], table: &mut [u32], idle: u32)
+    requires { ⌜ length (now table) ≡ leastWorkspace ⌝ }
+    ensures { λ _. ⌜ ((b : declared.Board) (s : Sheet) → readText (now (sheet .entry)) ≡ got s → KeepsLive (now (table .entry)) b s idle → HoldsSheet (now (table .exit)) b s) ⌝ }
+{
+    if idle != 0 {
+        read_sheet(sheet, table);
+    }
+}
+
+// Whether the sheet that was read into the table is accepted: 20, 10, 24, 11, 12, 13. If so its whole tree is in the table.
+fn ready_sheet(
+    sheet: &[u8],
+    table: &mut [u32],
+    board: Board,
+    player: Player,
+    setup: SetUp,
+) -> SheetRead
+    requires { ⌜ SheetHeld (now sheet) (now table) board player setup ⌝ }
+    ensures { λ r. ⌜ ReadyReply (now (sheet .entry)) r setup (now (table .exit)) ⌝ }
+{
+    let accepted = accept_sheet(table, board, player, setup);
+    match accepted {
+        FairRead::Refused { verdict } => SheetRead::Refused { verdict },
+        FairRead::Got { outcomes: _, idle } => {
+            whole_again(sheet, table, idle);
+            SheetRead::Got { board, player }
+        }
+    }
+}
+
+// Reads a sheet into the table: 2 to 9, and 19; then 20, 10, 24, 11, 12, 13. If it is accepted its whole tree is in the table.
+fn ready_text(sheet: &[u8], table: &mut [u32]) -> Loaded
+    requires { ⌜ length (now table) ≡ leastWorkspace ⌝ }
+    ensures { λ r. ⌜ ReadyReply (now (sheet .entry)) (r .read) (r .setup) (now (table .exit)) ⌝ }
+{
+    let loaded = read_sheet(sheet, table);
+    let read = loaded.read;
+    let setup = loaded.setup;
+    match read {
+        SheetRead::Refused { verdict } => Loaded {
+            read: SheetRead::Refused { verdict },
+            setup,
+        },
+        SheetRead::Got { board, player } => {
+            let read = ready_sheet(sheet, table, board, player, setup);
+            Loaded { read, setup }
+        }
+    }
+}
+
+// Plays the accepted sheet in the table: 14, and then for each move in turn 15, 16, 17; or done.
 fn play_sheet(
     table: &mut [u32],
     board: Board,
@@ -225,21 +285,15 @@ fn play_sheet(
     moves: &[u32],
     room: &mut [u32],
 ) -> Played
-    requires { ⌜ SomeText (now table) board player setup ⌝ }
-    ensures { λ r. ⌜ ((text : Bytes) → SheetHeld text (now (table .entry)) board player setup → PlayedKept (play leastWorkspace text (now (moves .entry)) (length (now (room .entry)))) (now (room .entry)) r (now (room .exit))) ⌝ }
+    requires { ⌜ SomeReady (now table) board player setup ⌝ }
+    ensures { λ r. ⌜ ((text : Bytes) → ReadyHeld text (now (table .entry)) board player setup → PlayedKept (play leastWorkspace text (now (moves .entry)) (length (now (room .entry)))) (now (room .entry)) r (now (room .exit))) ⌝ }
 {
-    let accepted = accept_sheet(table, board, player, setup);
-    match accepted {
-        FairRead::Refused { verdict } => unplayed(verdict, 0),
-        FairRead::Got { outcomes: _ } => {
-            if room.len() < moves.len() {
-                return unplayed(Verdict::ShortRoom, 0);
-            }
-            let own = setup.own;
-            let opp = setup.opp;
-            play_table(table, board, player, own, opp, moves, room)
-        }
+    if room.len() < moves.len() {
+        return unplayed(Verdict::ShortRoom, 0);
     }
+    let own = setup.own;
+    let opp = setup.opp;
+    play_table(table, board, player, own, opp, moves, room)
 }
 
 // Plays a sheet that is read into the table.
@@ -247,9 +301,9 @@ fn play_text(sheet: &[u8], moves: &[u32], room: &mut [u32], table: &mut [u32]) -
     requires { ⌜ length (now table) ≡ leastWorkspace ⌝ }
     ensures { λ r. ⌜ PlayedKept (play leastWorkspace (now (sheet .entry)) (now (moves .entry)) (length (now (room .entry)))) (now (room .entry)) r (now (room .exit)) ⌝ }
 {
-    let loaded = read_sheet(sheet, table);
-    let read = loaded.read;
-    let setup = loaded.setup;
+    let ready = ready_text(sheet, table);
+    let read = ready.read;
+    let setup = ready.setup;
     match read {
         SheetRead::Refused { verdict } => unplayed(verdict, 0),
         SheetRead::Got { board, player } => play_sheet(table, board, player, setup, moves, room),

@@ -31,9 +31,10 @@ same-length-2 c = search needs
 
 returns-2 : tie.Need-returns-2
 returns-2 c =
-    let told = c .before .before .before in
+    let call = c .before .before in
+    let told = call .before .before .before in
     let held = held-of _ _ _ _ (told .before .before .before .before .before .read-sheet .ensures .reply-is) _ _ (told .read2 .given .1) in
-    reply-sheet _ (held .sheet) _ (held .reads) (c .judge-table .ensures (held .sheet) (held .whole) (held .for))
+    reply-sheet _ (held .sheet) _ (held .reads) (call .judge-table .ensures (held .sheet) (held .whole) (held .for))
 
 pub judge-text-spec : {M : Type 1} → statement M
 judge-text-spec =

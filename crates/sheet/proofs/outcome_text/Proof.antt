@@ -39,7 +39,7 @@ same-length-3 c = search needs
 
 returns-2 : tie.Need-returns-2
 returns-2 c =
-    let call = c .before .before in
+    let call = c .before .before .before .before in
     let told = call .before .before .before .before in
     let held = held-of _ _ _ _ (told .before .before .before .before .before .read-sheet .ensures .reply-is) _ _ (told .read2 .given .1) in
     kept-as (outcome-sheet _ _ _ (held .sheet) (held .reads)) (call .name-outcome .ensures (held .sheet) (held .whole))
