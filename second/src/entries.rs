@@ -103,8 +103,8 @@ fn counted(text: &[u8], work: &mut [u32]) -> Result<(Sheet, u128), Verdict> {
         checked(&sheet)?;
     }
     let count = count_of_move(&sheet.root, taken);
-    let among: Taken = if fault::on(Fault::LimitAmongAll) { every_move } else { taken };
-    if too_many(count_of_move(&sheet.root, among)) {
+    let among_all = fault::on(Fault::LimitAmongAll);
+    if too_many(if among_all { count_of_move(&sheet.root, every_move) } else { count }) {
         return Err(Verdict::TooManyOutcomes);
     }
     Ok((sheet, count))

@@ -28,7 +28,7 @@ pub const GOOD: [(usize, Recipe); 6] = [
 ];
 
 /// Accepted sheets that are dear to test: as many nodes or outcomes as are allowed.
-pub const DEAR: [(usize, Recipe); 2] = [(2, padded), (2, |maker| at_limit(maker).text())];
+pub const DEAR: [(usize, Recipe); 2] = [(2, padded), (2, full)];
 
 /// Fair sheets of which most have an outcome that does not join, or too many outcomes.
 pub const UNJOINED: [(usize, Recipe); 7] = [
@@ -145,13 +145,12 @@ pub const NEARLY: [(usize, Recipe); 4] = [
 ];
 
 /// Accepted sheets with spare branches, which are not live and need not join; some of them with too many outcomes by document 01's count.
-pub const SPARE: [(usize, Recipe); 6] = [
+pub const SPARE: [(usize, Recipe); 5] = [
     (8, |maker| spared(maker.plan(60), maker).text()),
     (3, |maker| spared(maker.slow_plan(60), maker).text()),
     (3, |maker| spared(maker.deep_plan(60), maker).text()),
     (3, |maker| spared(few_stones(maker), maker).text()),
     (4, |maker| heavy(maker).text()),
-    (1, full_and_spared),
 ];
 
 /// Fair sheets with spare branches of which most have an outcome that does not join, or too many.
@@ -267,10 +266,12 @@ fn at_limit(maker: &mut Maker) -> Plan {
     }
 }
 
-/// Makes such a plan with spare branches that leave its outcomes as many as they are.
-fn full_and_spared(maker: &mut Maker) -> Vec<u8> {
+/// Makes such a sheet, half the time with spare branches, which leave its outcomes as many as they are.
+fn full(maker: &mut Maker) -> Vec<u8> {
     let mut plan = at_limit(maker);
-    spare::add(&mut plan, 3, u128::MAX, &mut maker.rng);
+    if maker.rng.chance(50) {
+        spare::add(&mut plan, 3, u128::MAX, &mut maker.rng);
+    }
     plan.text()
 }
 
