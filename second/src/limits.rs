@@ -182,7 +182,7 @@ fn counting(count: usize, spots: &mut Numbered, rng: &mut Rng) -> Vec<Step> {
         return pair(spots.next(), spots.next());
     }
     let own = spots.next();
-    if count % 2 == 0 {
+    if count.is_multiple_of(2) {
         let waits = product(count - 2, spots, rng);
         let below: Vec<Spot> = spots_of(&waits[0]).into_iter().collect();
         return vec![step(own, waits), leaf(below[0]), leaf(below[1])];
@@ -202,8 +202,10 @@ fn product(count: usize, spots: &mut Numbered, rng: &mut Rng) -> Vec<Vec<Step>> 
     let mut waits = Vec::new();
     let mut left = count;
     while left > 1 {
-        let parts: Vec<usize> =
-            [2, 3, 4, 5, 8, 15, 16, 17].into_iter().filter(|part| left % part == 0).collect();
+        let parts: Vec<usize> = [2, 3, 4, 5, 8, 15, 16, 17]
+            .into_iter()
+            .filter(|part| left.is_multiple_of(*part))
+            .collect();
         let part = if parts.is_empty() { left } else { *rng.pick(&parts) };
         waits.push(counting(part, spots, rng));
         left /= part;

@@ -360,16 +360,21 @@ fn answered(input: &[u8]) -> String {
     String::from_utf8(output).expect("only digits, tabs, line feeds and one word")
 }
 
+/// Says what a good request, a bad one and another good one are answered, the last only where the bad one ends.
+fn after_good(bad: &[u8]) -> String {
+    let good = b"judge\t8192\t0\n";
+    let last = if bad.ends_with(b"\n") { &good[..] } else { b"" };
+    answered(&[good, bad, last].concat())
+}
+
 /// Requests: the quiet end, and the word for each malformed request.
 #[test]
 fn request_lines() {
     assert_eq!(answered(b""), "");
     let good = b"judge\t8192\t0\n".to_vec();
     assert_eq!(answered(&good), "3\t1\t0\t0\t0\t0\t0\n");
-    assert_eq!(answered(&[good.clone(), good.clone()].concat()), "3\t1\t0\t0\t0\t0\t0\n".repeat(2));
-    assert_eq!(answered(b"counts\t8192\t0\n"), "3\t1\t0\t0\t0\t0\t0\t0\t0\n");
-    assert_eq!(answered(b"counts\t0\t2\nab"), "1\t0\t0\t0\t0\t0\t0\t0\t0\n");
-    let bad: [&[u8]; 25] = [
+    assert_eq!(answered(&[good.clone(), good].concat()), "3\t1\t0\t0\t0\t0\t0\n".repeat(2));
+    let bad: [&[u8]; 17] = [
         b"\n",
         b"judge\t8192\t0",
         b"judge\t8192\n",
@@ -387,9 +392,27 @@ fn request_lines() {
         b"outcome\t1\t0\t1\t1\t1\n",
         b"outcome\t1\t0\t1\t-1\n",
         b"judge 1 0\n",
+    ];
+    for request in bad {
+        assert_eq!(after_good(request), "3\t1\t0\t0\t0\t0\t0\nrequest\n", "{request:?}");
+    }
+    let cells = |count: usize| format!("play\t1\t0\t0{}\n", "\t1".repeat(count));
+    assert_eq!(answered(cells(400).as_bytes()), "1\t0\t0\t0\t0\t0\t0\n");
+    assert_eq!(answered(cells(401).as_bytes()), "request\n");
+    assert_eq!(answered(b"outcome\t9000\t0\t1000\t4294967295\n"), "3\t1\t0\t0\t0\n");
+}
+
+/// The request counts: nine numbers, malformed in the ways of judge.
+#[test]
+fn counts_request() {
+    assert_eq!(answered(b"counts\t8192\t0\n"), "3\t1\t0\t0\t0\t0\t0\t0\t0\n");
+    assert_eq!(answered(b"counts\t0\t2\nab"), "1\t0\t0\t0\t0\t0\t0\t0\t0\n");
+    let bad: [&[u8]; 10] = [
         b"counts\t8192\n",
+        b"counts\t8192\t0",
         b"counts\t8192\t0\t\n",
         b"counts\t8192\t0\t0\n",
+        b"counts\t08192\t0\n",
         b"count\t8192\t0\n",
         b"Counts\t8192\t0\n",
         b"counts\t9001\t0\n",
@@ -397,18 +420,8 @@ fn request_lines() {
         b"counts\t1\t3\nab",
     ];
     for request in bad {
-        let input = [&good, request, b"judge\t8192\t0\n"].concat();
-        let stop = if request.ends_with(b"\n") {
-            &input[..]
-        } else {
-            &input[..good.len() + request.len()]
-        };
-        assert_eq!(answered(stop), "3\t1\t0\t0\t0\t0\t0\nrequest\n", "{request:?}");
+        assert_eq!(after_good(request), "3\t1\t0\t0\t0\t0\t0\nrequest\n", "{request:?}");
     }
-    let cells = |count: usize| format!("play\t1\t0\t0{}\n", "\t1".repeat(count));
-    assert_eq!(answered(cells(400).as_bytes()), "1\t0\t0\t0\t0\t0\t0\n");
-    assert_eq!(answered(cells(401).as_bytes()), "request\n");
-    assert_eq!(answered(b"outcome\t9000\t0\t1000\t4294967295\n"), "3\t1\t0\t0\t0\n");
 }
 
 /// Follow-up C-17: boards to 19 by 19, columns a to s, cells to 361.
