@@ -121,8 +121,11 @@ fn accepted(text: &[u8], work: &mut [u32]) -> Result<(Sheet, u128), Verdict> {
 
 /// Gives a refusal, with all counts 0.
 fn refused(text: &[u8], verdict: Verdict) -> Judged {
-    let read = sheet::read(text).ok().filter(|_| fault::on(Fault::IdleOnRefusal));
-    let idle = read.map_or(0, |sheet| count_idle(&sheet.root));
+    let idle = if fault::on(Fault::IdleOnRefusal) {
+        sheet::read(text).map_or(0, |sheet| count_idle(&sheet.root))
+    } else {
+        0
+    };
     Judged { verdict, moves: 0, waits: 0, outcomes: 0, idle }
 }
 
@@ -132,15 +135,15 @@ pub fn judge(text: &[u8], work: &mut [u32]) -> Judged {
         Ok(found) => found,
         Err(verdict) => return refused(text, verdict),
     };
-    let thin = fault::on(Fault::DeadUncounted);
-    let root = if thin { without_dead(&sheet.root) } else { sheet.root.clone() };
+    let thin = fault::on(Fault::DeadUncounted).then(|| without_dead(&sheet.root));
+    let root = thin.as_ref().unwrap_or(&sheet.root);
     let uncounted = fault::on(Fault::RootNotCounted) && root.cell == 0;
     let own = sheet.set_up.cells(Side::Own).count();
     let counted = if fault::on(Fault::OwnCountedAsMoves) { own } else { 0 };
     Judged {
         verdict: Verdict::Done,
-        moves: counted + count_moves(&root) - usize::from(uncounted),
-        waits: count_waits(&root),
+        moves: counted + count_moves(root) - usize::from(uncounted),
+        waits: count_waits(root),
         outcomes: count as usize,
         idle: count_idle(&sheet.root),
     }

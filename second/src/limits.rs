@@ -213,7 +213,8 @@ fn product(count: usize, spots: &mut Numbered, rng: &mut Rng) -> Vec<Vec<Step>> 
     waits
 }
 
-/// Puts a tree of numbered spots on a board so that all its outcomes join: on one row, or on two where the second and the third spot are the moves of its first wait, or beside own stones that join.
+/// Puts a tree of numbered spots on a board so that all its outcomes join: on one row, on two where the moves of its first wait are on the second spot and the third,
+/// or beside own stones that join.
 fn on_board(mut root: Step, count: i32, rng: &mut Rng) -> Plan {
     let columns = if count > 2 * SIDES[0] { SIDES[1] } else { *rng.pick(&SIDES) };
     let below = root.waits[0].iter().all(|next| [2, 3].contains(&next.spot.0));

@@ -2,8 +2,7 @@
 
 use crate::grow::attempt;
 use crate::live::live_moves;
-use crate::outcomes::count_of_move;
-use crate::outcomes::OUTCOMES;
+use crate::outcomes::{count_of_move, OUTCOMES};
 use crate::plan::{add_new, leaf, pair, spots_of, step, Plan, Spot, Step};
 use crate::rng::Rng;
 use crate::sheet;
@@ -41,7 +40,8 @@ fn naming_wait(spots: &[Spot], rng: &mut Rng) -> Vec<Step> {
     wait
 }
 
-/// Makes a move that has all spots common to these moves, some others of these spots and some that nothing names, if they are enough for a fair one. It is not live after those moves.
+/// Makes a move that has all spots common to these moves, some others of these spots and some that nothing names, if they are enough for a fair one.
+/// It is not live after those moves.
 fn spare(before: &[Step], others: &[Spot], free: &[Spot], rng: &mut Rng) -> Option<Step> {
     let sets: Vec<BTreeSet<Spot>> = before.iter().map(Step::spots).collect();
     let in_all = |spot: &Spot| sets.iter().all(|spots| spots.contains(spot));
@@ -75,7 +75,8 @@ fn put(plan: &mut Plan, rng: &mut Rng) {
     }
 }
 
-/// Adds so many spare branches, where the limits allow it and no branch is there twice then. The outcomes stay as they are: a branch is left out if its cells would make another spare one live.
+/// Adds so many spare branches, where the limits allow it and no branch is there twice then.
+/// The outcomes stay as they are: a branch is left out if its cells would make another spare one live.
 pub fn add(plan: &mut Plan, count: usize, most: u128, rng: &mut Rng) {
     let outcomes = live_outcomes(plan);
     for _ in 0..count {
