@@ -3,6 +3,7 @@
 
 extern "C" {
     fn sorbitanque_judge(sheet: *const u8, sheet_length: usize, workspace: *mut u32, workspace_length: usize, details: *mut [u32; 7]);
+    fn sorbitanque_counts(sheet: *const u8, sheet_length: usize, workspace: *mut u32, workspace_length: usize, numbers: *mut [u32; 9]);
     fn sorbitanque_play(
         sheet: *const u8,
         sheet_length: usize,
@@ -35,6 +36,14 @@ fn judge(sheet: &[u8], workspace: &mut [u32]) -> [u32; 7] {
     // The slices are Rust's own, so each pointer is good for its length and nothing that is written overlaps.
     unsafe { sorbitanque_judge(sheet.as_ptr(), sheet.len(), workspace.as_mut_ptr(), workspace.len(), &mut details) };
     details
+}
+
+/// The numbers of counts.
+fn counts(sheet: &[u8], workspace: &mut [u32]) -> [u32; 9] {
+    let mut numbers = [UNTOUCHED; 9];
+    // As above.
+    unsafe { sorbitanque_counts(sheet.as_ptr(), sheet.len(), workspace.as_mut_ptr(), workspace.len(), &mut numbers) };
+    numbers
 }
 
 /// The details of play.
@@ -113,18 +122,37 @@ fn lists(name: &str, number: u32, room_length: usize, wanted: [u32; 7], cells: &
     assert!(left(&workspace), "the workspace after outcome {number} of {name}");
 }
 
+/// The sheets that a file of sheets/ names, with the numbers beside each.
+fn expected(file: &str) -> Vec<(String, Vec<u32>)> {
+    let lines = String::from_utf8(sheet(file)).unwrap();
+    let row = |line: &str| {
+        let mut fields = line.split('\t');
+        let name = fields.next().unwrap().to_string();
+        (name, fields.map(|n| n.parse().unwrap()).collect())
+    };
+    let rows: Vec<(String, Vec<u32>)> = lines.lines().map(row).collect();
+    assert!(9 <= rows.len());
+    rows
+}
+
 #[test]
 fn judges_the_sheets() {
-    let expected = String::from_utf8(sheet("expected")).unwrap();
-    assert!(9 <= expected.lines().count());
-    for line in expected.lines() {
-        let mut fields = line.split('\t');
-        let name = fields.next().unwrap();
-        let wanted: Vec<u32> = fields.map(|n| n.parse().unwrap()).collect();
+    for (name, wanted) in expected("expected") {
         for length in [WORKSPACE, WORKSPACE + 5] {
             let mut workspace = used(length);
-            assert_eq!(judge(&sheet(name), &mut workspace)[..], wanted[..], "judge {name}");
+            assert_eq!(judge(&sheet(&name), &mut workspace)[..], wanted[..], "judge {name}");
             assert!(left(&workspace), "the workspace after judge {name}");
+        }
+    }
+}
+
+#[test]
+fn counts_the_sheets() {
+    for (name, wanted) in expected("expected_counts") {
+        for length in [WORKSPACE, WORKSPACE + 5] {
+            let mut workspace = used(length);
+            assert_eq!(counts(&sheet(&name), &mut workspace)[..], wanted[..], "counts {name}");
+            assert!(left(&workspace), "the workspace after counts {name}");
         }
     }
 }
@@ -134,6 +162,7 @@ fn refuses_a_small_workspace() {
     let mut workspace = used(WORKSPACE - 1);
     let mut room = [UNTOUCHED; 4];
     assert_eq!(judge(&sheet("p1"), &mut workspace), [1, 0, 0, 0, 0, 0, 0]);
+    assert_eq!(counts(&sheet("p1"), &mut workspace), [1, 0, 0, 0, 0, 0, 0, 0, 0]);
     assert_eq!(play(&sheet("p1"), &[3], &mut room, &mut workspace), [1, 0, 0, 0, 0, 0, 0]);
     assert_eq!(outcome(&sheet("p1"), 0, &mut room, &mut workspace), [1, 0, 0, 0, 0, 0, 0]);
     assert!(left(&workspace) && room == [UNTOUCHED; 4]);
@@ -145,6 +174,8 @@ fn refuses_long_text() {
     assert_eq!(judge(&[], &mut workspace), [3, 1, 0, 0, 0, 0, 0]);
     assert_eq!(judge(&[0; 32768], &mut workspace), [3, 1, 0, 0, 0, 0, 0]);
     assert_eq!(judge(&[0; 32769], &mut workspace), [2, 0, 0, 0, 0, 0, 0]);
+    assert_eq!(counts(&[], &mut workspace), [3, 1, 0, 0, 0, 0, 0, 0, 0]);
+    assert_eq!(counts(&[0; 32769], &mut workspace), [2, 0, 0, 0, 0, 0, 0, 0, 0]);
     assert!(left(&workspace));
 }
 
@@ -158,6 +189,8 @@ fn plays_the_samples() {
     plays("p1", &[5], 1, [16, 0, 0, 0, 1, 0, 0], &[]);
     plays("p6", &[], 0, [0, 0, 0, 0, 0, 0, 1], &[]);
     plays("p6", &[], 3, [0, 0, 0, 0, 0, 0, 1], &[]);
+    plays("spare", &[8], 1, [0, 0, 0, 0, 0, 1, 1], &[6]);
+    plays("spare19", &[11], 2, [0, 0, 0, 0, 0, 1, 1], &[351]);
 }
 
 #[test]
@@ -178,6 +211,7 @@ fn lists_outcomes() {
     lists("p8", 0, 3, [0, 0, 0, 0, 3, 0, 0], &[1, 2, 4]);
     lists("p8", 7, 3, [0, 0, 0, 0, 3, 0, 0], &[3, 5, 6]);
     lists("p2", 1, 2, [0, 0, 0, 0, 2, 0, 0], &[1, 4]);
+    lists("spare", 1, 2, [0, 0, 0, 0, 2, 0, 0], &[2, 7]);
 }
 
 #[test]
@@ -189,4 +223,6 @@ fn refuses_outcomes() {
     lists("p4", 0, 9, [10, 2, 2, 0, 0, 0, 0], &[]);
     lists("branch_twice", 0, 9, [24, 32, 0, 0, 0, 0, 0], &[]);
     lists("seventeen_waits", 0, 200, [12, 0, 0, 0, 0, 0, 0], &[]);
+    lists("spare", 2, 9, [18, 0, 0, 0, 0, 0, 0], &[]);
+    lists("spare_many", 2, 200, [18, 0, 0, 0, 0, 0, 0], &[]);
 }

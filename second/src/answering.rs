@@ -3,6 +3,7 @@
 use crate::fair::{cells_of_move, cells_of_wait};
 use crate::fault::{self, Fault};
 use crate::joining::joins;
+use crate::live::cells_of_live_wait;
 use crate::set_up::Side;
 use crate::sheet::{Move, Sheet, Wait};
 use crate::verdict::Verdict;
@@ -93,7 +94,9 @@ impl<'a> Game<'a> {
 
     /// Finds the open wait, the first in line order, whose cells hold the opponent's cell.
     fn touched(&self, cell: usize) -> Option<usize> {
-        let holds = |place: &usize| cells_of_wait(self.open[*place]).contains(&cell);
+        let dead_out = fault::on(Fault::TouchedWithoutDead);
+        let looked_at = if dead_out { cells_of_live_wait } else { cells_of_wait };
+        let holds = |place: &usize| looked_at(self.open[*place]).contains(&cell);
         (0..self.open.len()).filter(holds).min_by_key(|&place| self.open[place].line)
     }
 

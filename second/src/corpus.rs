@@ -2,11 +2,13 @@
 
 use crate::answering::Game;
 use crate::entries::{self, WORKSPACE};
+use crate::live::{every_move, live_moves};
 use crate::maker::Maker;
-use crate::outcomes::count_of_move;
+use crate::outcomes::{count_of_move, Taken};
 use crate::recipes::{schedule, Recipe};
 use crate::recipes::{DAMAGED, DEAR, GOOD, LIMITS, UNFAIR, UNJOINED};
 use crate::recipes::{NEARLY, SET_UP, SET_UP_DAMAGED, SET_UP_UNJOINED, TWINS};
+use crate::recipes::{SPARE, SPARE_REFUSED, SPARE_UNJOINED};
 use crate::requests::{Ask, Request};
 use crate::rng::Rng;
 use crate::set_up::Side;
@@ -18,6 +20,7 @@ pub struct Sizes {
     pub judges: usize,
     pub plays: usize,
     pub outcomes: usize,
+    pub counts: usize,
 }
 
 /// Makes all requests of a corpus.
@@ -26,9 +29,13 @@ pub fn requests(sizes: &Sizes) -> Vec<Request> {
     let plain: [&[(usize, Recipe)]; 6] = [&GOOD, &DEAR, &UNJOINED, &UNFAIR, &DAMAGED, &LIMITS];
     let set_up: [&[(usize, Recipe)]; 3] = [&SET_UP, &SET_UP_UNJOINED, &SET_UP_DAMAGED];
     let twins: [&[(usize, Recipe)]; 2] = [&TWINS, &NEARLY];
-    let all = schedule(&[&plain[..], &set_up, &twins].concat(), &mut maker.rng);
-    let good = schedule(&[&GOOD, &SET_UP], &mut maker.rng);
-    let fair = schedule(&[&GOOD, &UNJOINED, &UNJOINED, &SET_UP, &SET_UP_UNJOINED], &mut maker.rng);
+    let spare: [&[(usize, Recipe)]; 3] = [&SPARE, &SPARE_UNJOINED, &SPARE_REFUSED];
+    let all = schedule(&[&plain[..], &set_up, &twins, &spare].concat(), &mut maker.rng);
+    let good = schedule(&[&GOOD, &SET_UP, &SPARE], &mut maker.rng);
+    let fair: [&[(usize, Recipe)]; 4] = [&GOOD, &UNJOINED, &UNJOINED, &SET_UP];
+    let fair = [&fair[..], &[&SET_UP_UNJOINED, &SPARE, &SPARE_UNJOINED]].concat();
+    let fair = schedule(&fair, &mut maker.rng);
+    let spare = schedule(&spare, &mut maker.rng);
     let mut requests = Vec::new();
     for place in 0..sizes.judges {
         let text = all[place % all.len()](&mut maker);
@@ -41,6 +48,10 @@ pub fn requests(sizes: &Sizes) -> Vec<Request> {
     for place in 0..sizes.outcomes {
         let recipe = chosen(&all, &fair, place, 25);
         requests.push(outcome(&mut maker, recipe, place));
+    }
+    for place in 0..sizes.counts {
+        let text = chosen(&all, &spare, place, 60)(&mut maker);
+        requests.push(Request { work: lent(&text, &mut maker.rng), text, ask: Ask::Counts });
     }
     requests
 }
@@ -197,13 +208,17 @@ fn play(maker: &mut Maker, recipe: Recipe, place: usize) -> Request {
 fn outcome(maker: &mut Maker, recipe: Recipe, place: usize) -> Request {
     let text = recipe(maker);
     let rng = &mut maker.rng;
-    let count = sheet::read(&text).map_or(3, |sheet| count_of_move(&sheet.root));
-    let count = count.min(70_000) as u32;
+    let counted = |taken: Taken| {
+        let count = sheet::read(&text).map_or(3, |sheet| count_of_move(&sheet.root, taken));
+        count.min(70_000) as u32
+    };
+    let (count, all) = (counted(live_moves), counted(every_move));
     let number = match place % 10 {
         0 => 0,
         1 => count - 1,
         2 => count,
         3 => *rng.pick(&[count + 1, 65_535, 65_536, 65_537, u32::MAX, 1 << 31, count + 65_536]),
+        4 => *rng.pick(&[all - 1, all, count - 1, count, (count + all) / 2]),
         _ => rng.below(count as usize) as u32,
     };
     let mut work = vec![0; WORKSPACE];

@@ -3,7 +3,8 @@
 use crate::answering::Game;
 use crate::fair::{first_not_apart, first_not_elusive, first_unfair};
 use crate::fault::{self, Fault};
-use crate::outcomes::{count_of_move, first_unjoined, outcomes_of_move, too_many};
+use crate::live::{count_idle, every_move, without_dead};
+use crate::outcomes::{count_of_move, first_unjoined, outcomes_of_move, taken, too_many, Taken};
 use crate::set_up::{off_stones, Side};
 use crate::sheet::{self, count_moves, count_waits, Sheet};
 use crate::twins::no_twins;
@@ -13,13 +14,14 @@ use std::collections::BTreeSet;
 /// How many numbers of workspace must be lent.
 pub const WORKSPACE: usize = 8_192;
 
-/// What judge replies.
+/// What judge replies; idle is the number of moves that are not live.
 #[derive(Clone, Copy, PartialEq, Eq, Debug)]
 pub struct Judged {
     pub verdict: Verdict,
     pub moves: usize,
     pub waits: usize,
     pub outcomes: usize,
+    pub idle: usize,
 }
 
 /// What play replies.
@@ -80,19 +82,29 @@ fn fair(sheet: &Sheet) -> Result<(), Verdict> {
     Ok(())
 }
 
-/// Reads a sheet and counts its outcomes, deciding 1 to 9 and 19, then 20, 10, 24, 11, 12.
-fn counted(text: &[u8], work: &mut [u32]) -> Result<(Sheet, u128), Verdict> {
-    borrow(text, work)?;
-    let sheet = sheet::read(text)?;
+/// Checks the whole tree of a sheet, also where moves are not live: 20, 10, 24, 11.
+fn checked(sheet: &Sheet) -> Result<(), Verdict> {
     if fault::on(Fault::TwinsBeforeStones) {
         no_twins(&sheet.root)?;
     }
     if !fault::on(Fault::OnStoneAfterApart) {
         off_stones(&sheet.root, &sheet.set_up)?;
     }
-    fair(&sheet)?;
-    let count = count_of_move(&sheet.root);
-    if too_many(count) {
+    fair(sheet)
+}
+
+/// Reads a sheet and counts its outcomes, deciding 1 to 9 and 19, then 20, 10, 24, 11, 12.
+fn counted(text: &[u8], work: &mut [u32]) -> Result<(Sheet, u128), Verdict> {
+    borrow(text, work)?;
+    let sheet = sheet::read(text)?;
+    if fault::on(Fault::DeadUnchecked) {
+        checked(&Sheet { root: without_dead(&sheet.root), ..sheet.clone() })?;
+    } else {
+        checked(&sheet)?;
+    }
+    let count = count_of_move(&sheet.root, taken);
+    let among_all = fault::on(Fault::LimitAmongAll);
+    if too_many(if among_all { count_of_move(&sheet.root, every_move) } else { count }) {
         return Err(Verdict::TooManyOutcomes);
     }
     Ok((sheet, count))
@@ -107,21 +119,33 @@ fn accepted(text: &[u8], work: &mut [u32]) -> Result<(Sheet, u128), Verdict> {
     }
 }
 
+/// Gives a refusal, with all counts 0.
+fn refused(text: &[u8], verdict: Verdict) -> Judged {
+    let idle = if fault::on(Fault::IdleOnRefusal) {
+        sheet::read(text).map_or(0, |sheet| count_idle(&sheet.root))
+    } else {
+        0
+    };
+    Judged { verdict, moves: 0, waits: 0, outcomes: 0, idle }
+}
+
 /// Judges a sheet.
 pub fn judge(text: &[u8], work: &mut [u32]) -> Judged {
-    match accepted(text, work) {
-        Err(verdict) => Judged { verdict, moves: 0, waits: 0, outcomes: 0 },
-        Ok((sheet, count)) => {
-            let uncounted = fault::on(Fault::RootNotCounted) && sheet.root.cell == 0;
-            let own = sheet.set_up.cells(Side::Own).count();
-            let counted = if fault::on(Fault::OwnCountedAsMoves) { own } else { 0 };
-            Judged {
-                verdict: Verdict::Done,
-                moves: counted + count_moves(&sheet.root) - usize::from(uncounted),
-                waits: count_waits(&sheet.root),
-                outcomes: count as usize,
-            }
-        }
+    let (sheet, count) = match accepted(text, work) {
+        Ok(found) => found,
+        Err(verdict) => return refused(text, verdict),
+    };
+    let thin = fault::on(Fault::DeadUncounted).then(|| without_dead(&sheet.root));
+    let root = thin.as_ref().unwrap_or(&sheet.root);
+    let uncounted = fault::on(Fault::RootNotCounted) && root.cell == 0;
+    let own = sheet.set_up.cells(Side::Own).count();
+    let counted = if fault::on(Fault::OwnCountedAsMoves) { own } else { 0 };
+    Judged {
+        verdict: Verdict::Done,
+        moves: counted + count_moves(root) - usize::from(uncounted),
+        waits: count_waits(root),
+        outcomes: count as usize,
+        idle: count_idle(&sheet.root),
     }
 }
 
@@ -186,7 +210,12 @@ fn one_outcome(
 ) -> Result<Vec<usize>, Verdict> {
     let judged = if fault::on(Fault::OutcomeGives13) { accepted } else { counted };
     let (sheet, count) = judged(text, work)?;
-    let listed = outcomes_of_move(&sheet.root, count as usize);
+    let among: Taken = if fault::on(Fault::NumbersAmongAll) { every_move } else { taken };
+    let mut listed = outcomes_of_move(&sheet.root, count as usize, among);
+    if fault::on(Fault::NumberLimitAmongAll) {
+        let all = count_of_move(&sheet.root, every_move).min(70_000) as usize;
+        listed.resize(all.max(listed.len()), listed[listed.len() - 1].clone());
+    }
     let nearest = listed.get(number as usize).or(listed.last());
     if fault::on(Fault::RoomBeforeNumber) && nearest.is_some_and(|cells| room < cells.len()) {
         return Err(Verdict::Room);

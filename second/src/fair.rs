@@ -1,6 +1,7 @@
 //! Section "Fair sheets", first half: the cells of a node, apart and elusive.
 
 use crate::fault::{self, Fault};
+use crate::live::{cells_of_live, cells_of_live_wait};
 use crate::sheet::{Move, Wait};
 use std::collections::BTreeSet;
 
@@ -53,7 +54,9 @@ fn pick(faulty: &BTreeSet<usize>, named: &dyn Fn() -> Vec<usize>) -> Option<usiz
 
 /// Gives the faulty cells of a move: its own found under it, or found in two or more waits.
 fn faulty_of_move(step: &Move) -> BTreeSet<usize> {
-    let below: Vec<BTreeSet<usize>> = step.waits.iter().map(cells_of_wait).collect();
+    let dead_out = fault::on(Fault::ApartWithoutDead);
+    let looked_at = if dead_out { cells_of_live_wait } else { cells_of_wait };
+    let below: Vec<BTreeSet<usize>> = step.waits.iter().map(looked_at).collect();
     let mut faulty = BTreeSet::new();
     for &cell in below.iter().flatten() {
         let own = cell == step.cell && !fault::on(Fault::OwnBelow);
@@ -79,6 +82,8 @@ fn faulty_of_wait(wait: &Wait) -> BTreeSet<usize> {
     }
     let branches: Vec<BTreeSet<usize>> = if fault::on(Fault::FirstCellOnly) {
         wait.moves.iter().map(|step| BTreeSet::from([step.cell])).collect()
+    } else if fault::on(Fault::ElusiveWithoutDead) {
+        wait.moves.iter().map(cells_of_live).collect()
     } else {
         wait.moves.iter().map(cells_of_move).collect()
     };

@@ -2,11 +2,12 @@
 
 use crate::plan::{leaf, pair, Plan, Spot, Step};
 use crate::rng::Rng;
+use crate::spare::live_outcomes;
 use crate::templates::{free_move, free_wait};
 use crate::unlike::{add_nodes, IDLE};
 
 /// Tries a change and takes it only while the sheet stays inside its limits and has no branch twice.
-fn attempt(plan: &mut Plan, most: u128, change: impl FnOnce(&mut Plan)) {
+pub fn attempt(plan: &mut Plan, most: u128, change: impl FnOnce(&mut Plan)) {
     let mut changed = plan.clone();
     change(&mut changed);
     let root = &changed.root;
@@ -113,7 +114,7 @@ pub fn hinder(plan: &mut Plan, count: usize, most: u128, rng: &mut Rng) {
 
 /// Adds idle waits of two while the outcomes stay at or below a number.
 pub fn double(plan: &mut Plan, most: u128, rng: &mut Rng) {
-    while plan.root.outcomes() * 2 <= most && plan.unused(rng).len() >= 2 {
+    while live_outcomes(plan) * 2 <= most && plan.unused(rng).len() >= 2 {
         idle_pair(plan, rng);
     }
 }

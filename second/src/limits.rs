@@ -1,9 +1,10 @@
 //! Sheets at, below and above every limit.
 
 use crate::board::LARGEST;
-use crate::plan::{leaf, name, pair, step, Plan, Spot, Step, NONE};
+use crate::plan::{leaf, name, pair, spots_of, step, Plan, Spot, Step, NONE};
+use crate::positions;
 use crate::rng::Rng;
-use crate::unlike::{add_nodes, add_outcomes, singles, IDLE};
+use crate::unlike::{add_nodes, singles, IDLE};
 
 /// The most columns and rows of a board, and those of one that is smaller.
 const SIDES: [i32; 2] = [13, LARGEST as i32];
@@ -40,6 +41,9 @@ pub fn many_nodes(nodes: usize, rng: &mut Rng) -> Plan {
         let (second, idle) = spots.split_at(2);
         waits.push(singles(second));
         add_nodes(&mut waits[1], nodes - 7, idle, rng);
+    }
+    if rng.chance(50) {
+        waits.iter_mut().for_each(|wait| rng.shuffle(wait));
     }
     plan.root.waits = waits;
     plan
@@ -161,61 +165,104 @@ pub fn counts(rng: &mut Rng) -> Vec<u8> {
     text
 }
 
-/// Gives how many spots a wait of so many outcomes takes: of two or three single moves, or of two and some idle ones.
-fn spots_for(count: usize) -> usize {
-    match count {
-        2 | 3 => count,
-        4..=16 => 5,
-        _ => 8,
+/// Spots that are numbered from 1 as they are taken, until a board is found for all of them.
+struct Numbered(i32);
+
+impl Numbered {
+    /// Takes the next spot.
+    fn next(&mut self) -> Spot {
+        self.0 += 1;
+        (self.0, 0)
     }
 }
 
-/// Makes a wait of so many outcomes over its spots, with no branch twice.
-fn counting(count: usize, spots: &[Spot], rng: &mut Rng) -> Vec<Step> {
-    let (moves, idle) = spots.split_at(count.min(if count == 3 { 3 } else { 2 }));
-    let mut wait = singles(moves);
-    add_outcomes(&mut wait, count - moves.len(), idle, rng);
-    wait
+/// Makes a wait of so many outcomes, two at least, of which all moves are live and no branch is there twice.
+fn counting(count: usize, spots: &mut Numbered, rng: &mut Rng) -> Vec<Step> {
+    if count == 2 {
+        return pair(spots.next(), spots.next());
+    }
+    let own = spots.next();
+    if count.is_multiple_of(2) {
+        let waits = product(count - 2, spots, rng);
+        let below: Vec<Spot> = spots_of(&waits[0]).into_iter().collect();
+        return vec![step(own, waits), leaf(below[0]), leaf(below[1])];
+    }
+    let other = spots.next();
+    if count >= 5 && rng.chance(50) {
+        let one = step(own, product((count - 1) / 2, spots, rng));
+        let mut two = Step { spot: other, ..one.clone() };
+        rng.shuffle(&mut two.waits);
+        return vec![one, two, leaf(spots.next())];
+    }
+    vec![step(own, product(count - 1, spots, rng)), leaf(other)]
 }
 
-/// Makes a move whose outcomes are counted by the product of these factors.
-fn product(own: Spot, factors: &[usize], spots: &[Spot], rng: &mut Rng) -> Step {
-    let mut rest = spots;
+/// Makes waits whose outcomes, multiplied, are so many.
+fn product(count: usize, spots: &mut Numbered, rng: &mut Rng) -> Vec<Vec<Step>> {
     let mut waits = Vec::new();
-    for &factor in factors {
-        let (taken, others) = rest.split_at(spots_for(factor));
-        waits.push(counting(factor, taken, rng));
-        rest = others;
+    let mut left = count;
+    while left > 1 {
+        let parts: Vec<usize> = [2, 3, 4, 5, 8, 15, 16, 17]
+            .into_iter()
+            .filter(|part| left.is_multiple_of(*part))
+            .collect();
+        let part = if parts.is_empty() { left } else { *rng.pick(&parts) };
+        waits.push(counting(part, spots, rng));
+        left /= part;
     }
-    step(own, waits)
+    waits
 }
 
-/// Makes a plan on a wide board of one row, or more if needed, counting just these factors.
-fn counted(factors: &[usize], one_more: bool, rng: &mut Rng) -> Plan {
-    let needed = factors.iter().map(|&factor| spots_for(factor)).sum::<usize>() as i32 + 3;
-    let columns = if needed > 2 * SIDES[0] { SIDES[1] } else { *rng.pick(&SIDES) };
-    let rows = (needed + columns - 1) / columns;
-    let mut plan = Plan::new(columns, rows, leaf(NONE));
+/// Puts a tree of numbered spots on a board so that all its outcomes join: on one row, on two where the moves of its first wait are on the second spot and the third,
+/// or beside own stones that join.
+fn on_board(mut root: Step, count: i32, rng: &mut Rng) -> Plan {
+    let columns = if count > 2 * SIDES[0] { SIDES[1] } else { *rng.pick(&SIDES) };
+    let below = root.waits[0].iter().all(|next| [2, 3].contains(&next.spot.0));
+    let rows = (count + columns - 1) / columns;
+    let bare = rows == 1 || (rows == 2 && below);
+    let mut plan = if bare {
+        Plan::new(columns, rows, leaf(NONE))
+    } else {
+        positions::joined(columns, (count + columns - 2) / (columns - 1), rng)
+    };
     let mut spots = plan.unused(rng);
-    if rows == 2 {
+    if bare && rows == 2 {
         let column = rng.between(2, columns as usize) as i32;
         let first = [(column, 1), (column - 1, 2), (column, 2)];
         spots.retain(|spot| !first.contains(spot));
         spots.splice(0..0, first);
     }
-    let own = if rows == 1 && rng.chance(40) { NONE } else { spots[0] };
-    plan.root = product(own, factors, &spots[1..], rng);
-    if one_more {
-        let many = product(spots[spots.len() - 1], factors, &spots[1..], rng);
-        plan.root = step(spots[0], vec![vec![many, leaf(spots[spots.len() - 2])]]);
+    root.change(&|spot| spots[spot.0 as usize - 1]);
+    if !(bare && rows == 2) && rng.chance(40) {
+        root.spot = NONE;
     }
+    plan.root = root;
     plan
+}
+
+/// Makes a plan whose outcomes, over live moves, are the product of these factors, or one more; they all join.
+fn counted(factors: &[usize], one_more: bool, rng: &mut Rng) -> Plan {
+    let mut spots = Numbered(0);
+    let own = spots.next();
+    let two = one_more.then(|| (spots.next(), spots.next()));
+    let waits = factors.iter().map(|&factor| counting(factor, &mut spots, rng)).collect();
+    let root = match two {
+        Some((one, other)) => step(own, vec![vec![step(one, waits), leaf(other)]]),
+        None => step(own, waits),
+    };
+    on_board(root, spots.0, rng)
 }
 
 /// Makes a plan with just as many outcomes as are allowed, which all join.
 pub fn full_outcomes(rng: &mut Rng) -> Plan {
-    let factors: [&[usize]; 4] =
-        [&[256, 256], &[16, 16, 16, 16], &[2, 4, 8, 2, 4, 8, 16], &[32, 2, 1024]];
+    let factors: [&[usize]; 6] = [
+        &[2; 16],
+        &[2, 4, 4, 4, 4, 4, 4, 4, 2],
+        &[256, 256],
+        &[16, 16, 16, 16],
+        &[2, 4, 8, 2, 4, 8, 16],
+        &[32, 2, 1024],
+    ];
     let chosen = *rng.pick(&factors);
     counted(chosen, false, rng)
 }
@@ -229,27 +276,32 @@ pub fn one_fewer(rng: &mut Rng) -> Plan {
 
 /// Makes a plan with one outcome more than is allowed.
 pub fn one_more(rng: &mut Rng) -> Plan {
-    let factors: &[usize] = if rng.chance(50) { &[256, 256] } else { &[16, 16, 16, 16] };
-    counted(factors, true, rng)
+    let factors: [&[usize]; 3] = [&[2; 16], &[256, 256], &[16, 16, 16, 16]];
+    let chosen = *rng.pick(&factors);
+    counted(chosen, true, rng)
 }
 
-/// Makes a plan with more outcomes than are allowed, among them counts that wrap.
+/// Makes a plan with more outcomes than are allowed, among them counts that wrap; half the time without the stones that join.
 pub fn over_outcomes(rng: &mut Rng) -> Plan {
     let over: [(Vec<usize>, bool); 13] = [
         (vec![2; 17], false),
         (vec![257, 256], false),
         (vec![256; 4], false),
         (vec![2; 32], false),
-        (vec![16; 8], false),
-        (vec![16; 8], true),
+        (vec![4; 16], false),
+        (vec![4; 16], true),
         (vec![256; 4], true),
         (vec![2; 64], false),
         (vec![2; 64], true),
-        (vec![16; 16], true),
-        (vec![16; 16], false),
-        (vec![16; 32], true),
-        (vec![16; 32], false),
+        (vec![4; 32], true),
+        (vec![4; 32], false),
+        (vec![4; 64], true),
+        (vec![4; 64], false),
     ];
     let (factors, one_more) = rng.pick(&over);
-    counted(factors, *one_more, rng)
+    let mut plan = counted(factors, *one_more, rng);
+    if rng.chance(50) {
+        plan.stones.clear();
+    }
+    plan
 }

@@ -12,6 +12,7 @@ mod grow;
 mod joining;
 mod limits;
 mod links;
+mod live;
 mod maker;
 mod outcomes;
 mod plan;
@@ -23,6 +24,7 @@ mod rng;
 mod set_up;
 mod sheet;
 mod solve;
+mod spare;
 mod tell;
 mod templates;
 #[cfg(test)]
@@ -38,17 +40,18 @@ use std::io::{self, BufWriter, Write};
 use std::process::ExitCode;
 
 const USAGE: &str =
-    "second replies [--fault NAME] | faults | make|tell|histogram SEED JUDGES PLAYS OUTCOMES";
+    "second replies [--fault NAME] | faults | make|tell|histogram SEED JUDGES PLAYS OUTCOMES COUNTS";
 
-/// Reads the four numbers that make a corpus.
+/// Reads the five numbers that make a corpus.
 fn sizes(words: &[String]) -> Option<corpus::Sizes> {
     let numbers: Vec<u64> = words.iter().filter_map(|word| word.parse().ok()).collect();
     match (numbers.as_slice(), words.len()) {
-        (&[seed, judges, plays, outcomes], 4) => Some(corpus::Sizes {
+        (&[seed, judges, plays, outcomes, counts], 5) => Some(corpus::Sizes {
             seed,
             judges: judges as usize,
             plays: plays as usize,
             outcomes: outcomes as usize,
+            counts: counts as usize,
         }),
         _ => None,
     }
@@ -87,9 +90,9 @@ fn run(words: &[String]) -> Option<io::Result<bool>> {
             Some(replies())
         }
         ("faults", 1) => Some(names()),
-        ("make", 5) => Some(make(&sizes(&words[1..])?)),
-        ("tell", 5) => Some(Ok(tell::tell(&sizes(&words[1..])?))),
-        ("histogram", 5) => Some(Ok(tell::histogram(&sizes(&words[1..])?))),
+        ("make", 6) => Some(make(&sizes(&words[1..])?)),
+        ("tell", 6) => Some(Ok(tell::tell(&sizes(&words[1..])?))),
+        ("histogram", 6) => Some(Ok(tell::histogram(&sizes(&words[1..])?))),
         _ => None,
     }
 }

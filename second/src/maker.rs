@@ -3,9 +3,13 @@
 use crate::board::LARGEST;
 use crate::entries::{judge, WORKSPACE};
 use crate::grow;
+use crate::joining::joins;
 use crate::links;
+use crate::live::every_move;
+use crate::outcomes::outcomes_of_move;
 use crate::plan::{Plan, NONE};
 use crate::rng::Rng;
+use crate::sheet;
 use crate::solve;
 use crate::templates;
 use crate::verdict::Verdict;
@@ -62,6 +66,15 @@ const SOLVED: [(usize, usize, bool); 11] = [
 pub fn accepted(plan: &Plan) -> bool {
     let mut work = vec![0; WORKSPACE];
     plan.fits() && judge(&plan.text(), &mut work).verdict == Verdict::Done
+}
+
+/// Says whether a plan is accepted and so many outcomes join that document 01 counts: also those of moves that are not live, which may be live in another order.
+fn all_join(plan: &Plan, most: u128) -> bool {
+    let joined = |sheet: sheet::Sheet| {
+        let outcomes = outcomes_of_move(&sheet.root, most as usize, every_move);
+        outcomes.iter().all(|cells| joins(sheet.board, sheet.player, cells))
+    };
+    accepted(plan) && sheet::read(&plan.text()).is_ok_and(joined)
 }
 
 impl Maker {
@@ -121,7 +134,7 @@ impl Maker {
             let found = match self.rng.below(16) {
                 0..=4 => Some(self.rng.pick(&self.searched).clone()).filter(small),
                 5..=7 => Some(self.rng.pick(&self.solved).clone()).filter(small),
-                _ => self.candidate().filter(small).filter(accepted),
+                _ => self.candidate().filter(small).filter(|plan| all_join(plan, most)),
             };
             if let Some(plan) = found {
                 return plan;

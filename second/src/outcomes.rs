@@ -1,12 +1,24 @@
-//! Section "Fair sheets", second half: counting and listing outcomes, and whether all join.
+//! Section "Fair sheets", second half: counting and listing outcomes, and whether all join. Since follow-up C-16 they run over live moves only.
 
 use crate::fault::{self, Fault};
 use crate::joining::joins;
+use crate::live::{every_move, live_moves};
 use crate::set_up::Side;
 use crate::sheet::{Move, Sheet, Wait};
 
 /// The most outcomes a sheet may have.
 pub const OUTCOMES: u128 = 65_536;
+
+/// Which moves of a wait outcomes take: the live ones, or all, as document 01 has it.
+pub type Taken = for<'a> fn(&'a Wait) -> Vec<&'a Move>;
+
+/// Lists the moves of a wait that outcomes take: the live ones.
+pub fn taken(wait: &Wait) -> Vec<&Move> {
+    if fault::on(Fault::DeadInOutcomes) {
+        return every_move(wait);
+    }
+    live_moves(wait)
+}
 
 /// Keeps a count as it is; only a faulty program cuts it.
 fn kept(count: u128) -> u128 {
@@ -20,15 +32,15 @@ fn kept(count: u128) -> u128 {
 }
 
 /// Counts the outcomes of a move: the product over its waits, 1 for none.
-pub fn count_of_move(step: &Move) -> u128 {
-    let times = |count: u128, wait| kept(count.saturating_mul(count_of_wait(wait)));
+pub fn count_of_move(step: &Move, taken: Taken) -> u128 {
+    let times = |count: u128, wait| kept(count.saturating_mul(count_of_wait(wait, taken)));
     step.waits.iter().fold(1, times)
 }
 
-/// Counts the outcomes of a wait: the sum over its moves.
-pub fn count_of_wait(wait: &Wait) -> u128 {
-    let plus = |count: u128, step| kept(count.saturating_add(count_of_move(step)));
-    wait.moves.iter().fold(0, plus)
+/// Counts the outcomes of a wait: the sum over its moves that are taken.
+fn count_of_wait(wait: &Wait, taken: Taken) -> u128 {
+    let plus = |count: u128, step| kept(count.saturating_add(count_of_move(step, taken)));
+    taken(wait).into_iter().fold(0, plus)
 }
 
 /// Says whether there are too many outcomes.
@@ -43,20 +55,20 @@ pub fn too_many(count: u128) -> bool {
 }
 
 /// Lists the first outcomes of a move in their numbering, at most so many.
-pub fn outcomes_of_move(step: &Move, most: usize) -> Vec<Vec<usize>> {
+pub fn outcomes_of_move(step: &Move, most: usize, taken: Taken) -> Vec<Vec<usize>> {
     let own = if step.cell == 0 { vec![] } else { vec![step.cell] };
     let mut outcomes = vec![own];
     for wait in &step.waits {
-        outcomes = paired(&outcomes, &outcomes_of_wait(wait, most), most);
+        outcomes = paired(&outcomes, &outcomes_of_wait(wait, most, taken), most);
     }
     outcomes
 }
 
 /// Lists the first outcomes of a wait in their numbering, at most so many.
-fn outcomes_of_wait(wait: &Wait, most: usize) -> Vec<Vec<usize>> {
+fn outcomes_of_wait(wait: &Wait, most: usize, taken: Taken) -> Vec<Vec<usize>> {
     let mut outcomes = Vec::new();
-    for step in &wait.moves {
-        outcomes.extend(outcomes_of_move(step, most));
+    for step in taken(wait) {
+        outcomes.extend(outcomes_of_move(step, most, taken));
         outcomes.truncate(most);
     }
     outcomes
@@ -90,14 +102,50 @@ fn counted_stones(sheet: &Sheet) -> Vec<usize> {
     stones
 }
 
+/// Gives the number that document 01 gave the outcome of a number, counting all moves; only a faulty program asks this.
+fn number_among_all(step: &Move, number: u128) -> u128 {
+    let mut left = number;
+    let (mut among_all, mut times) = (0u128, 1u128);
+    for wait in step.waits.iter().rev() {
+        let count = count_of_wait(wait, live_moves);
+        let more = times.saturating_mul(number_of_wait_among_all(wait, left % count));
+        among_all = more.saturating_add(among_all);
+        left /= count;
+        times = times.saturating_mul(count_of_wait(wait, every_move));
+    }
+    among_all
+}
+
+/// Gives the same of an outcome of a wait.
+fn number_of_wait_among_all(wait: &Wait, number: u128) -> u128 {
+    let live: Vec<usize> = live_moves(wait).into_iter().map(|step| step.line).collect();
+    let (mut left, mut before) = (number, 0u128);
+    for step in &wait.moves {
+        if live.contains(&step.line) {
+            let count = count_of_move(step, live_moves);
+            if left < count {
+                return before.saturating_add(number_among_all(step, left));
+            }
+            left -= count;
+        }
+        before = before.saturating_add(count_of_move(step, every_move));
+    }
+    before
+}
+
 /// Finds the smallest number of an outcome that does not join, the own set-up stones counted in.
 pub fn first_unjoined(sheet: &Sheet, count: u128) -> Option<usize> {
     let stones = counted_stones(sheet);
-    let mut outcomes = outcomes_of_move(&sheet.root, count as usize);
+    let over: Taken = if fault::on(Fault::UnjoinedAmongAll) { every_move } else { taken };
+    let mut outcomes = outcomes_of_move(&sheet.root, count as usize, over);
     outcomes.iter_mut().for_each(|cells| cells.extend(&stones));
     let unjoined = |cells: &Vec<usize>| !joins(sheet.board, sheet.player, cells);
     if fault::on(Fault::UnjoinedLast) {
         return outcomes.iter().rposition(unjoined);
     }
-    outcomes.iter().position(unjoined)
+    let found = outcomes.iter().position(unjoined);
+    if fault::on(Fault::UnjoinedNumberAmongAll) {
+        return found.map(|number| number_among_all(&sheet.root, number as u128) as usize);
+    }
+    found
 }

@@ -10,6 +10,7 @@ use crate::plan::Plan;
 use crate::positions;
 use crate::requests::BYTES;
 use crate::rng::Rng;
+use crate::spare;
 use crate::templates;
 use crate::unfair;
 
@@ -143,6 +144,34 @@ pub const NEARLY: [(usize, Recipe); 4] = [
     (1, |maker| doubled::all_cells(&mut maker.rng).text()),
 ];
 
+/// Accepted sheets with spare branches, which are not live and need not join; some of them with too many outcomes by document 01's count.
+pub const SPARE: [(usize, Recipe); 5] = [
+    (8, |maker| spared(maker.plan(60), maker).text()),
+    (3, |maker| spared(maker.slow_plan(60), maker).text()),
+    (3, |maker| spared(maker.deep_plan(60), maker).text()),
+    (3, |maker| spared(few_stones(maker), maker).text()),
+    (4, |maker| heavy(maker).text()),
+];
+
+/// Fair sheets with spare branches of which most have an outcome that does not join, or too many.
+pub const SPARE_UNJOINED: [(usize, Recipe); 5] = [
+    (4, |maker| spared(maker.long_plan(), maker).text()),
+    (3, |maker| spared(maker.free_plan(), maker).text()),
+    (4, |maker| astray(maker).text()),
+    (2, |maker| lost_and_spared(maker).text()),
+    (2, |maker| spared(limits::over_outcomes(&mut maker.rng), maker).text()),
+];
+
+/// Sheets with spare branches that are refused, some of them for what stands in such a branch alone.
+pub const SPARE_REFUSED: [(usize, Recipe); 6] = [
+    (6, |maker| refused(maker, spoil)),
+    (2, |maker| refused(maker, |plan, rng| unfair::shared(plan, true, rng))),
+    (2, |maker| refused(maker, unfair::common)),
+    (3, |maker| refused(maker, doubled::once)),
+    (3, |maker| refused(maker, positions::cover)),
+    (1, |maker| damage::line(&spared(maker.plan(60), maker).text(), &mut maker.rng)),
+];
+
 /// Lists all recipes, each as often as it weighs, in a random order.
 pub fn schedule(groups: &[&[(usize, Recipe)]], rng: &mut Rng) -> Vec<Recipe> {
     let mut all: Vec<Recipe> = Vec::new();
@@ -216,25 +245,72 @@ fn padded(maker: &mut Maker) -> Vec<u8> {
     maker.placed(plan).text()
 }
 
-/// Makes by turns a sheet with as many outcomes as are allowed, one fewer and one more.
-fn full(maker: &mut Maker) -> Vec<u8> {
+/// Makes by turns a plan with as many outcomes as are allowed, one fewer and one more.
+fn at_limit(maker: &mut Maker) -> Plan {
     maker.turn += 1;
     match maker.turn % 8 {
-        1 | 5 => limits::full_outcomes(&mut maker.rng).text(),
-        2 | 4 | 7 => limits::one_more(&mut maker.rng).text(),
-        3 => limits::one_fewer(&mut maker.rng).text(),
+        1 | 5 => limits::full_outcomes(&mut maker.rng),
+        2 | 4 | 7 => limits::one_more(&mut maker.rng),
+        3 => limits::one_fewer(&mut maker.rng),
         6 => {
             let mut plan = maker.plan(16);
             grow::double(&mut plan, 65_536, &mut maker.rng);
-            plan.text()
+            plan
         }
         _ => {
             let plan = templates::pairing(7, 5, &mut maker.rng);
             let mut plan = maker.placed(plan);
             grow::idle_pair(&mut plan, &mut maker.rng);
-            plan.text()
+            plan
         }
     }
+}
+
+/// Makes such a sheet, half the time with spare branches, which leave its outcomes as many as they are.
+fn full(maker: &mut Maker) -> Vec<u8> {
+    let mut plan = at_limit(maker);
+    if maker.rng.chance(50) {
+        spare::add(&mut plan, 3, u128::MAX, &mut maker.rng);
+    }
+    plan.text()
+}
+
+/// Adds some spare branches to a plan.
+fn spared(mut plan: Plan, maker: &mut Maker) -> Plan {
+    let count = maker.rng.between(1, 6);
+    let most = plan.root.outcomes().saturating_mul(1_000);
+    spare::add(&mut plan, count, most, &mut maker.rng);
+    plan
+}
+
+/// Makes an accepted plan on a large board with spare branches of many outcomes.
+fn heavy(maker: &mut Maker) -> Plan {
+    let base = maker.base(60);
+    let columns = maker.width(base.columns.max(12));
+    let mut plan = base.widened(columns, 0);
+    spare::add_heavy(&mut plan, &mut maker.rng);
+    maker.placed(plan)
+}
+
+/// Makes an accepted plan with spare branches and moves a leaf to an unused cell, one of a spare branch or not.
+fn astray(maker: &mut Maker) -> Plan {
+    let mut plan = spared(maker.plan(60), maker);
+    unfair::astray(&mut plan, &mut maker.rng);
+    plan
+}
+
+/// Makes a plan with set-up stones and spare branches and leaves an own stone out.
+fn lost_and_spared(maker: &mut Maker) -> Plan {
+    let mut plan = spared(positions::resumed(maker), maker);
+    positions::lose(&mut plan, &mut maker.rng);
+    plan
+}
+
+/// Makes an accepted plan with spare branches and spoils it.
+fn refused(maker: &mut Maker, spoil: fn(&mut Plan, &mut Rng)) -> Vec<u8> {
+    let mut plan = spared(few_or_no_stones(maker), maker);
+    spoil(&mut plan, &mut maker.rng);
+    plan.text()
 }
 
 /// Makes an accepted plan with set-up stones that are few.
@@ -243,6 +319,14 @@ fn few_stones(maker: &mut Maker) -> Plan {
         0 => positions::scattered(maker),
         _ => positions::resumed(maker),
     }
+}
+
+/// Makes an accepted plan with set-up stones or without.
+fn few_or_no_stones(maker: &mut Maker) -> Plan {
+    if maker.rng.chance(20) {
+        return few_stones(maker);
+    }
+    maker.plan(60)
 }
 
 /// Makes a plan with set-up stones and leaves an own one out.

@@ -1,6 +1,7 @@
 //! Replies: one line for each request.
 
-use crate::entries::{judge, outcome, play};
+use crate::entries::{judge, outcome, play, Judged};
+use crate::fault::{self, Fault};
 use crate::requests::{self, Ask, Next, Request};
 use std::io::{BufRead, Result, Write};
 
@@ -9,14 +10,28 @@ fn tabbed(numbers: impl Iterator<Item = usize>) -> String {
     numbers.map(|number| number.to_string()).collect::<Vec<String>>().join("\t")
 }
 
+/// Gives the verdict's numbers and the counts of moves, waits and outcomes.
+fn judged(reply: &Judged) -> Vec<usize> {
+    let counts = [reply.moves, reply.waits, reply.outcomes];
+    reply.verdict.numbers().into_iter().chain(counts).collect()
+}
+
+/// Gives the two numbers that counts adds: the outcomes passed over (follow-up C-15, none yet) and the moves that are not live.
+fn added(reply: &Judged) -> [usize; 2] {
+    if fault::on(Fault::IdleForPassed) {
+        return [reply.idle, 0];
+    }
+    [0, reply.idle]
+}
+
 /// Answers one request with the numbers of its reply.
 pub fn numbers(request: &Request) -> Vec<usize> {
     let mut work = vec![0u32; request.work];
     match &request.ask {
-        Ask::Judge => {
+        Ask::Judge => judged(&judge(&request.text, &mut work)),
+        Ask::Counts => {
             let reply = judge(&request.text, &mut work);
-            let counts = [reply.moves, reply.waits, reply.outcomes];
-            reply.verdict.numbers().into_iter().chain(counts).collect()
+            judged(&reply).into_iter().chain(added(&reply)).collect()
         }
         Ask::Play { room, cells } => {
             let mut room = vec![0u32; *room];

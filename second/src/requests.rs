@@ -15,6 +15,7 @@ const CELLS: usize = 400;
 #[derive(Clone, PartialEq, Debug)]
 pub enum Ask {
     Judge,
+    Counts,
     Play { room: usize, cells: Vec<u32> },
     Outcome { room: usize, number: u32 },
 }
@@ -53,6 +54,7 @@ fn line(bytes: &[u8]) -> Option<(usize, usize, Ask)> {
     let length = number(fields.get(2)?, BYTES)? as usize;
     let ask = match (fields[0], fields.len()) {
         (b"judge", 3) => Ask::Judge,
+        (b"counts", 3) => Ask::Counts,
         (b"outcome", 5) => Ask::Outcome {
             room: number(fields[3], ROOM)? as usize,
             number: number(fields[4], large)? as u32,
@@ -92,6 +94,7 @@ pub fn write(request: &Request, output: &mut impl Write) -> Result<()> {
     let (work, bytes) = (request.work, request.text.len());
     match &request.ask {
         Ask::Judge => write!(output, "judge\t{work}\t{bytes}")?,
+        Ask::Counts => write!(output, "counts\t{work}\t{bytes}")?,
         Ask::Outcome { room, number } => {
             write!(output, "outcome\t{work}\t{bytes}\t{room}\t{number}")?
         }

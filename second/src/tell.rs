@@ -36,25 +36,26 @@ pub fn tell(sizes: &Sizes) -> bool {
     all_told
 }
 
-/// Prints how often each verdict is met by judge, play and outcome and in all, and says whether often enough.
+/// Prints how often each verdict is met by judge, play, outcome and counts and in all, and says whether often enough.
 pub fn histogram(sizes: &Sizes) -> bool {
-    let mut met = [[0usize; 4]; NUMBERS];
+    let mut met = [[0usize; 5]; NUMBERS];
     for request in requests(sizes) {
         let kind = match request.ask {
             Ask::Judge => 0,
             Ask::Play { .. } => 1,
             Ask::Outcome { .. } => 2,
+            Ask::Counts => 3,
         };
         let verdict = replies::numbers(&request)[0];
         met[verdict][kind] += 1;
-        met[verdict][3] += 1;
+        met[verdict][4] += 1;
     }
-    println!("verdict\tjudge\tplay\toutcome\tall");
+    println!("verdict\tjudge\tplay\toutcome\tcounts\tall");
     let mut often_enough = true;
     for verdict in (0..NUMBERS).filter(|verdict| !NOT_GIVEN.contains(verdict)) {
         let counts = met[verdict];
-        println!("{verdict}\t{}\t{}\t{}\t{}", counts[0], counts[1], counts[2], counts[3]);
-        often_enough &= counts[3] >= MET;
+        println!("{verdict}\t{}", counts.map(|count| count.to_string()).join("\t"));
+        often_enough &= counts[4] >= MET;
     }
     often_enough
 }

@@ -3,21 +3,25 @@
 use crate::corpus::{requests, Sizes};
 use crate::doubled;
 use crate::entries::{judge, WORKSPACE};
+use crate::fair::cells_of_move;
 use crate::fault;
 use crate::grow;
+use crate::joining::joins;
 use crate::limits;
 use crate::links;
+use crate::live::{every_move, live_moves};
 use crate::maker::{accepted, Maker};
-use crate::outcomes::{count_of_move, outcomes_of_move};
+use crate::outcomes::{count_of_move, outcomes_of_move, Taken};
 use crate::plan::{leaf, pair, step, Plan, NONE};
 use crate::positions;
-use crate::recipes::{LIMITS, SET_UP_DAMAGED, TWINS};
+use crate::recipes::{LIMITS, SET_UP_DAMAGED, SPARE, TWINS};
 use crate::replies;
 use crate::requests::{next, write, Ask, Next, BYTES};
 use crate::rng::Rng;
 use crate::set_up::Side;
 use crate::sheet;
 use crate::solve;
+use crate::spare::{self, live_outcomes};
 use crate::templates;
 use std::io::Cursor;
 
@@ -167,13 +171,75 @@ fn full_trees() {
 fn outcome_limits() {
     let mut rng = Rng::new(8);
     for _ in 0..6 {
-        assert_eq!(limits::full_outcomes(&mut rng).root.outcomes(), 65_536);
-        assert_eq!(limits::one_fewer(&mut rng).root.outcomes(), 65_535);
-        assert_eq!(limits::one_more(&mut rng).root.outcomes(), 65_537);
-        assert_eq!(verdict(&limits::full_outcomes(&mut rng).text()), 0);
-        assert_eq!(verdict(&limits::one_fewer(&mut rng).text()), 0);
-        assert_eq!(verdict(&limits::one_more(&mut rng).text()), 12);
+        let made: [(fn(&mut Rng) -> Plan, u128, usize); 3] = [
+            (limits::full_outcomes, 65_536, 0),
+            (limits::one_fewer, 65_535, 0),
+            (limits::one_more, 65_537, 12),
+        ];
+        for (make, outcomes, wanted) in made {
+            let mut plan = make(&mut rng);
+            assert_eq!((live_outcomes(&plan), verdict(&plan.text())), (outcomes, wanted));
+            spare::add(&mut plan, 3, u128::MAX, &mut rng);
+            assert_eq!((live_outcomes(&plan), verdict(&plan.text())), (outcomes, wanted));
+        }
         assert_eq!(verdict(&limits::over_outcomes(&mut rng).text()), 12);
+    }
+}
+
+/// Spare branches are not live, leave a plan accepted whether they join or not, and may be many, deep, or of too many outcomes by document 01's count.
+#[test]
+fn spare_branches() {
+    let mut maker = Maker::new(16);
+    let (mut unjoined, mut over, mut again) = (0, 0, 0);
+    for _ in 0..100 {
+        let before = maker.plan(60);
+        let mut plan = before.clone();
+        spare::add(&mut plan, 3, 100_000, &mut maker.rng);
+        let judged = judge(&plan.text(), &mut vec![0; WORKSPACE]);
+        assert_eq!(judged.verdict.numbers()[0], 0, "{}", String::from_utf8_lossy(&plan.text()));
+        assert!(judged.idle > 0 || plan == before);
+        unjoined += usize::from(!all_join(&plan));
+        again += usize::from(live_after_idle(&plan));
+        let mut plan = maker.base(60).widened(19, 0);
+        spare::add_heavy(&mut plan, &mut maker.rng);
+        assert!(accepted(&plan));
+        over += usize::from(plan.root.outcomes() > 65_536);
+    }
+    assert!(unjoined >= 20 && over >= 20 && again >= 20, "{unjoined} {over} {again}");
+}
+
+/// Says whether some wait under the root has a live move after one that is not.
+fn live_after_idle(plan: &Plan) -> bool {
+    let sheet = sheet::read(&plan.text()).expect("made plans can be read");
+    sheet.root.waits.iter().any(|wait| {
+        let live: Vec<usize> = live_moves(wait).iter().map(|step| step.line).collect();
+        let last = live[live.len() - 1];
+        wait.moves.iter().any(|step| step.line < last && !live.contains(&step.line))
+    })
+}
+
+/// Says whether all outcomes join that document 01 counts, or the first hundred thousand.
+fn all_join(plan: &Plan) -> bool {
+    let sheet = sheet::read(&plan.text()).expect("made plans can be read");
+    let outcomes = outcomes_of_move(&sheet.root, 100_000, every_move);
+    outcomes.iter().all(|cells| joins(sheet.board, sheet.player, cells))
+}
+
+/// The answering rule never gives a move that is not live: what the comment in `live` says.
+#[test]
+fn rule_gives_live_moves() {
+    let mut maker = Maker::new(17);
+    for _ in 0..100 {
+        let mut plan = maker.plan(60);
+        spare::add(&mut plan, 4, 100_000, &mut maker.rng);
+        let sheet = sheet::read(&plan.text()).expect("made plans can be read");
+        for wait in &sheet.root.waits {
+            let live: Vec<usize> = live_moves(wait).iter().map(|step| step.line).collect();
+            for cell in 1..=sheet.board.size() {
+                let first = wait.moves.iter().find(|step| !cells_of_move(step).contains(&cell));
+                assert!(live.contains(&first.expect("an accepted plan is elusive").line));
+            }
+        }
     }
 }
 
@@ -183,10 +249,12 @@ fn counts_and_lists() {
     let mut maker = Maker::new(9);
     for _ in 0..100 {
         let sheet = sheet::read(&maker.plan(300).text()).expect("made plans can be read");
-        let all = outcomes_of_move(&sheet.root, 1_000);
-        assert_eq!(all.len() as u128, count_of_move(&sheet.root));
-        let some = maker.rng.below(all.len()) + 1;
-        assert_eq!(outcomes_of_move(&sheet.root, some), all[..some]);
+        for taken in [live_moves as Taken, every_move] {
+            let all = outcomes_of_move(&sheet.root, 1_000, taken);
+            assert_eq!(all.len() as u128, count_of_move(&sheet.root, taken));
+            let some = maker.rng.below(all.len()) + 1;
+            assert_eq!(outcomes_of_move(&sheet.root, some, taken), all[..some]);
+        }
     }
 }
 
@@ -194,7 +262,7 @@ fn counts_and_lists() {
 #[test]
 fn sheets_can_be_sent() {
     let mut maker = Maker::new(15);
-    for (_, recipe) in SET_UP_DAMAGED.iter().chain(&LIMITS).chain(&TWINS) {
+    for (_, recipe) in SET_UP_DAMAGED.iter().chain(&LIMITS).chain(&TWINS).chain(&SPARE) {
         for _ in 0..200 {
             assert!(recipe(&mut maker).len() <= BYTES as usize);
         }
@@ -204,7 +272,7 @@ fn sheets_can_be_sent() {
 /// Requests are read as they were written, the same seed makes the same, every fault answers.
 #[test]
 fn small_corpus() {
-    let sizes = Sizes { seed: 3, judges: 150, plays: 100, outcomes: 80 };
+    let sizes = Sizes { seed: 3, judges: 150, plays: 100, outcomes: 80, counts: 60 };
     let made = requests(&sizes);
     let mut bytes = Vec::new();
     for request in &made {
@@ -226,7 +294,7 @@ fn small_corpus() {
 /// In games by accepted sheets every move has one answer, on an empty cell; set-up stones fill theirs.
 #[test]
 fn one_answer_each() {
-    let sizes = Sizes { seed: 4, judges: 0, plays: 400, outcomes: 0 };
+    let sizes = Sizes { seed: 4, judges: 0, plays: 400, outcomes: 0, counts: 0 };
     for request in requests(&sizes) {
         let Ask::Play { cells, .. } = &request.ask else {
             continue;

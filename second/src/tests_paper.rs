@@ -17,6 +17,10 @@ const P6: &str = "hex 1 1 D / m a1 0";
 const P8: &str =
     "hex 3 2 D / m - 3 / w 2 / m b1 0 / m c1 0 / w 2 / m a2 0 / m b2 0 / w 2 / m a1 0 / m c2 0";
 
+/// A wait whose third move is not live, nor is the third one under that.
+const SPARE: &str =
+    "hex 9 1 D / m - 1 / w 3 / m a1 0 / m b1 0 / m c1 1 / w 3 / m d1 0 / m e1 0 / m f1 0";
+
 /// Writes a sample as text, with its last line feed.
 fn text(sample: &str) -> Vec<u8> {
     let mut text = half(sample);
@@ -38,7 +42,8 @@ fn judged(text: &[u8]) -> Judged {
 fn verdict(text: &[u8]) -> [usize; 4] {
     let judged = judged(text);
     if judged.verdict != Verdict::Done {
-        assert_eq!((judged.moves, judged.waits, judged.outcomes), (0, 0, 0));
+        let counts = (judged.moves, judged.waits, judged.outcomes, judged.idle);
+        assert_eq!(counts, (0, 0, 0, 0));
     }
     judged.verdict.numbers()
 }
@@ -130,8 +135,13 @@ fn sample_counts() {
 /// The line printed for P8, and reply lines of the other entries.
 #[test]
 fn printed_lines() {
-    let line = |sample, ask| replies::line(&Request { work: WORKSPACE, text: text(sample), ask });
+    let line =
+        |sample: &str, ask| replies::line(&Request { work: WORKSPACE, text: text(sample), ask });
     assert_eq!(line(P8, Ask::Judge), "0\t0\t0\t0\t7\t3\t8");
+    assert_eq!(line(P8, Ask::Counts), "0\t0\t0\t0\t7\t3\t8\t0\t0");
+    assert_eq!(line(SPARE, Ask::Judge), "0\t0\t0\t0\t7\t2\t2");
+    assert_eq!(line(SPARE, Ask::Counts), "0\t0\t0\t0\t7\t2\t2\t0\t2");
+    assert_eq!(line(&SPARE.replace("9 1", "9 2"), Ask::Counts), "13\t0\t0\t0\t0\t0\t0\t0\t0");
     let play = Ask::Play { room: 3, cells: vec![2, 5, 1] };
     assert_eq!(line(P8, play), "0\t0\t0\t0\t0\t3\t1\t3\t4\t6");
     let play = Ask::Play { room: 2, cells: vec![3, 1] };
@@ -278,7 +288,7 @@ fn lengths() {
 /// Readings 10, 11, 12: outcomes are choices, 12 by count alone, 10 and 11 over the whole tree.
 #[test]
 fn readings_fair() {
-    let choices = "hex 4 1 D / m - 1 / w 3 / m a1 1 / w 2 / m b1 0 / m c1 0 / m b1 1 / w 2 / m a1 0 / m c1 0 / m d1 0";
+    let choices = "hex 4 1 D / m - 1 / w 3 / m a1 1 / w 2 / m b1 0 / m c1 0 / m b1 1 / w 2 / m a1 0 / m d1 0 / m c1 0";
     assert_eq!(counts(choices), (8, 3, 5));
     assert_eq!((listed(choices, 0, 2).1, listed(choices, 2, 2).1), (vec![1, 2], vec![1, 2]));
     let both = "hex 5 1 D / m - 1 / w 1 / m a1 1 / w 2 / m a1 0 / m b1 0";
@@ -350,13 +360,20 @@ fn answered(input: &[u8]) -> String {
     String::from_utf8(output).expect("only digits, tabs, line feeds and one word")
 }
 
+/// Says what a good request, a bad one and another good one are answered, the last only where the bad one ends.
+fn after_good(bad: &[u8]) -> String {
+    let good = b"judge\t8192\t0\n";
+    let last = if bad.ends_with(b"\n") { &good[..] } else { b"" };
+    answered(&[good, bad, last].concat())
+}
+
 /// Requests: the quiet end, and the word for each malformed request.
 #[test]
 fn request_lines() {
     assert_eq!(answered(b""), "");
     let good = b"judge\t8192\t0\n".to_vec();
     assert_eq!(answered(&good), "3\t1\t0\t0\t0\t0\t0\n");
-    assert_eq!(answered(&[good.clone(), good.clone()].concat()), "3\t1\t0\t0\t0\t0\t0\n".repeat(2));
+    assert_eq!(answered(&[good.clone(), good].concat()), "3\t1\t0\t0\t0\t0\t0\n".repeat(2));
     let bad: [&[u8]; 17] = [
         b"\n",
         b"judge\t8192\t0",
@@ -377,18 +394,34 @@ fn request_lines() {
         b"judge 1 0\n",
     ];
     for request in bad {
-        let input = [&good, request, b"judge\t8192\t0\n"].concat();
-        let stop = if request.ends_with(b"\n") {
-            &input[..]
-        } else {
-            &input[..good.len() + request.len()]
-        };
-        assert_eq!(answered(stop), "3\t1\t0\t0\t0\t0\t0\nrequest\n", "{request:?}");
+        assert_eq!(after_good(request), "3\t1\t0\t0\t0\t0\t0\nrequest\n", "{request:?}");
     }
     let cells = |count: usize| format!("play\t1\t0\t0{}\n", "\t1".repeat(count));
     assert_eq!(answered(cells(400).as_bytes()), "1\t0\t0\t0\t0\t0\t0\n");
     assert_eq!(answered(cells(401).as_bytes()), "request\n");
     assert_eq!(answered(b"outcome\t9000\t0\t1000\t4294967295\n"), "3\t1\t0\t0\t0\n");
+}
+
+/// The request counts: nine numbers, malformed in the ways of judge.
+#[test]
+fn counts_request() {
+    assert_eq!(answered(b"counts\t8192\t0\n"), "3\t1\t0\t0\t0\t0\t0\t0\t0\n");
+    assert_eq!(answered(b"counts\t0\t2\nab"), "1\t0\t0\t0\t0\t0\t0\t0\t0\n");
+    let bad: [&[u8]; 10] = [
+        b"counts\t8192\n",
+        b"counts\t8192\t0",
+        b"counts\t8192\t0\t\n",
+        b"counts\t8192\t0\t0\n",
+        b"counts\t08192\t0\n",
+        b"count\t8192\t0\n",
+        b"Counts\t8192\t0\n",
+        b"counts\t9001\t0\n",
+        b"counts\t1\t65537\n",
+        b"counts\t1\t3\nab",
+    ];
+    for request in bad {
+        assert_eq!(after_good(request), "3\t1\t0\t0\t0\t0\t0\nrequest\n", "{request:?}");
+    }
 }
 
 /// Follow-up C-17: boards to 19 by 19, columns a to s, cells to 361.
@@ -696,7 +729,7 @@ fn same_branches_at_limits() {
     assert_eq!(sample(&stones), [13, 0, 0, 0]);
     assert_eq!(sample(&stones.replace("m r19 0", "m a1 0")), [24, 4, 0, 0]);
     let last = "m q1 1 / w 2 / m r1 0 / m s1 0";
-    assert_eq!(counts(&full_size(last)), (1_536, 512, 1_024));
+    assert_eq!(counts(&full_size(last)), (1_536, 512, 2));
     assert_eq!(sample(&full_size(&last.replace("s1", "r1"))), [24, 2_047, 0, 0]);
     for (cells, wanted) in
         [(["c1", "d1", "e1"], 24), (["c1", "d1", "m1"], 0), (["l1", "k1", "j1"], 0)]
@@ -705,4 +738,109 @@ fn same_branches_at_limits() {
         let branch = format!("m {one} 1 / w 2 / m {two} 0 / m {three} 0");
         assert_eq!(sample(&full_size(&branch))[0], wanted, "{branch}");
     }
+}
+
+/// Gives the counts of moves, waits and outcomes of an accepted sample, and of the moves that are not live.
+fn live(sample: &str) -> (usize, usize, usize, usize) {
+    let (moves, waits, outcomes) = counts(sample);
+    (moves, waits, outcomes, judged(&text(sample)).idle)
+}
+
+/// Follow-up C-16, reading 25: a move is live if it is the first under its wait or some cell common to all moves before it isn't in it.
+#[test]
+fn live_moves() {
+    assert_eq!((live(P1), live(P6), live(P8)), ((3, 1, 2, 0), (1, 0, 1, 0), (7, 3, 8, 0)));
+    let row = |wait: &str| live(&format!("hex 9 1 D / m - 1 / {wait}"));
+    assert_eq!(row("w 3 / m a1 0 / m b1 0 / m c1 0"), (4, 1, 2, 1));
+    let first = "m a1 1 / w 2 / m b1 0 / m c1 0";
+    assert_eq!(row(&format!("w 3 / {first} / m b1 0 / m c1 0")), (6, 2, 4, 0));
+    assert_eq!(row(&format!("w 3 / m b1 0 / {first} / m c1 0")), (6, 2, 2, 1));
+    let deep = "m d1 1 / w 2 / m a1 0 / m e1 0";
+    assert_eq!(row(&format!("w 3 / m a1 0 / {deep} / m b1 0")), (6, 2, 2, 1));
+    assert_eq!(row(&format!("w 3 / {deep} / m a1 0 / m b1 0")), (6, 2, 4, 0));
+    let second = "m b1 1 / w 2 / m c1 0 / m d1 0";
+    let third = "m c1 1 / w 2 / m b1 0 / m e1 0";
+    assert_eq!(row(&format!("w 4 / {first} / {second} / {third} / m f1 0")), (11, 4, 5, 1));
+    assert_eq!(row(&format!("w 4 / {second} / {third} / {first} / m f1 0")), (11, 4, 5, 1));
+    let with_spare = "m a1 1 / w 3 / m b1 0 / m c1 0 / m d1 0";
+    let without = "m b1 1 / w 2 / m a1 0 / m c1 0";
+    assert_eq!(row(&format!("w 3 / {with_spare} / {without} / m e1 0")), (9, 3, 5, 1));
+    assert_eq!(row(&format!("w 3 / {without} / {with_spare} / m e1 0")), (9, 3, 3, 2));
+}
+
+/// Reading 25, further: each move that is not live is counted wherever it stands, and no live move below one.
+#[test]
+fn idle_moves() {
+    assert_eq!(live(SPARE), (7, 2, 2, 2));
+    assert_eq!(live(&SPARE.replace("w 3 / m d1", "w 2 / m d1").replace(" / m f1 0", "")).3, 1);
+    let under = "m c1 1 / w 3 / m d1 0 / m e1 0 / m f1 1 / w 4 / m g1 0 / m h1 0 / m i1 0 / m d1 0";
+    let nested = format!("hex 9 1 D / m - 1 / w 3 / m a1 0 / m b1 0 / {under}");
+    assert_eq!(live(&nested), (11, 3, 2, 4));
+    let two = "hex 9 1 D / m - 2 / w 3 / m a1 0 / m b1 0 / m c1 0 / w 3 / m d1 0 / m e1 0 / m f1 0";
+    assert_eq!(live(two), (7, 2, 4, 2));
+    let stones = SPARE.replace("D /", "D / own i1 / opp h1 /");
+    assert_eq!(live(&stones), (7, 2, 2, 2));
+}
+
+/// Writes a wait of two single moves and a third with sixteen waits of two, on 19 by 2 where two own stones join; the third first if so asked.
+fn heavy(third_first: bool) -> String {
+    let cell =
+        |place: usize| format!("{}{}", char::from(b'b' + (place % 18) as u8), place / 18 + 1);
+    let pairs = (0..16).map(|pair| (cell(3 + 2 * pair), cell(4 + 2 * pair)));
+    let pairs: String =
+        pairs.map(|two| format!(" / w 2 / m {} 0 / m {} 0", two.0, two.1)).collect();
+    let third = format!("m d1 16{pairs}");
+    let [singles, root] = ["m b1 0 / m c1 0", "hex 19 2 D / own a1 / own a2 / m - 1 / w 3"];
+    match third_first {
+        true => format!("{root} / {third} / {singles}"),
+        false => format!("{root} / {singles} / {third}"),
+    }
+}
+
+/// Reading 26: 12, 13 and 18, and the outcomes' numbers, go by live moves.
+#[test]
+fn live_outcomes() {
+    assert_eq!(live(&heavy(false)), (36, 17, 2, 1));
+    assert_eq!((sample(&heavy(true)), listed(&heavy(true), 0, 99).0), ([12, 0, 0, 0], 12));
+    let one_less = heavy(true).replace("m d1 16 / w 2 / m e1 0 / m f1 0", "m d1 15");
+    assert_eq!(live(&one_less), (34, 16, 32_769, 1));
+    assert_eq!(
+        (listed(&heavy(false), 1, 3).1, listed(&heavy(false), 2, 3).0),
+        (vec![1, 3, 20], 18)
+    );
+    assert_eq!((listed(&one_less, 32_768, 3).0, listed(&one_less, 32_769, 3).0), (0, 18));
+    let spare = "hex 2 2 D / m b1 1 / w 3 / m a2 0 / m b2 0 / m a1 0";
+    assert_eq!(live(spare), (4, 1, 2, 1));
+    assert_eq!(
+        sample(&spare.replace("m a2 0 / m b2 0 / m a1 0", "m a2 0 / m a1 0 / m b2 0")),
+        [13, 0, 0, 1]
+    );
+    let between = "hex 2 2 D / m a1 1 / w 3 / m a2 0 / m b1 1 / w 2 / m a2 0 / m b2 0 / m b2 0";
+    assert_eq!(sample(between), [13, 0, 0, 1]);
+    assert_eq!((listed(between, 0, 2).1, listed(between, 1, 2).1), (vec![1, 3], vec![1, 4]));
+    assert_eq!((listed(between, 2, 0).0, listed(between, 3, 9).0), (18, 18));
+    assert_eq!(refused(between, &[0]), (13, 0, false));
+}
+
+/// Reading 26, further: 10, 11, 20, 24 and the answering rule see every line.
+#[test]
+fn every_line() {
+    let third = |set_up: &str, third: &str| {
+        sample(&format!("hex 9 1 D / {set_up}m - 1 / w 3 / m a1 0 / m b1 0 / {third}"))
+    };
+    assert_eq!(third("", "m c1 1 / w 2 / m c1 0 / m d1 0"), [10, 6, 3, 0]);
+    assert_eq!(third("", "m c1 1 / w 1 / m d1 0"), [11, 7, 4, 0]);
+    assert_eq!(third("", "m c1 1 / w 2 / m d1 0 / m d1 0"), [24, 7, 0, 0]);
+    assert_eq!(third("", "m b1 0"), [24, 3, 0, 0]);
+    assert_eq!(third("opp c1 / ", "m c1 0"), [20, 7, 3, 0]);
+    let shared = "hex 9 1 D / m - 2 / w 3 / m a1 0 / m b1 0 / m c1 0 / w 2 / m c1 0 / m d1 0";
+    assert_eq!(sample(shared), [10, 2, 3, 0]);
+    let one = "m a1 1 / w 3 / m b1 0 / m c1 0 / m d1 0";
+    let other = "m e1 1 / w 3 / m f1 0 / m g1 0 / m d1 0";
+    assert_eq!(sample(&format!("hex 9 1 D / m - 1 / w 2 / {one} / {other}")), [11, 3, 4, 0]);
+    let touched = "hex 9 2 D / m b1 2 / w 2 / m d1 0 / m e1 0 / w 3 / m a2 0 / m b2 0 / m f1 0";
+    assert_eq!(live(touched), (6, 2, 4, 1));
+    assert_eq!(played(touched, &[6]).1, vec![10]);
+    assert_eq!(played(touched, &[9]).1, vec![4]);
+    assert_eq!(played(touched, &[10]).1, vec![11]);
 }

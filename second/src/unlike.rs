@@ -23,36 +23,21 @@ fn idle_waits(spots: &[Spot], rng: &mut Rng) -> Vec<Vec<Step>> {
     waits
 }
 
-/// Adds unlike branches to a wait, each one of its moves with idle waits under it, until their sizes, of which the least is given, add up to just so many.
+/// Adds unlike branches to a wait, each one of its moves with idle waits under it, until they have just so many nodes (four at least, or none). One of its moves is single.
 /// Where a branch does not fit, now and then the last one is taken back, since what is left may have no branch of its size.
-fn add_unlike(
-    wait: &mut Vec<Step>,
-    mut left: usize,
-    (least, size_of): (usize, fn(&Step) -> usize),
-    idle: &[Spot],
-    rng: &mut Rng,
-) {
+pub fn add_nodes(wait: &mut Vec<Step>, nodes: usize, idle: &[Spot], rng: &mut Rng) {
+    let (mut left, least) = (nodes, 4);
     assert!(left == 0 || left >= least, "no branch is so small");
     let moves = wait.clone();
     while left > 0 {
         let mut next = rng.pick(&moves).clone();
         next.waits.extend(idle_waits(idle, rng));
-        let size = size_of(&next);
+        let size = next.nodes();
         if (size == left || size + least <= left) && !wait.contains(&next) {
             wait.push(next);
             left -= size;
         } else if wait.len() > moves.len() && rng.chance(5) {
-            left += wait.pop().map_or(0, |last| size_of(&last));
+            left += wait.pop().map_or(0, |last| last.nodes());
         }
     }
-}
-
-/// Adds so many nodes (four at least, or none) of unlike branches to a wait that has a single move.
-pub fn add_nodes(wait: &mut Vec<Step>, nodes: usize, idle: &[Spot], rng: &mut Rng) {
-    add_unlike(wait, nodes, (4, Step::nodes), idle, rng);
-}
-
-/// Adds so many outcomes (two at least, or none) of unlike branches to a wait that has a single move.
-pub fn add_outcomes(wait: &mut Vec<Step>, count: usize, idle: &[Spot], rng: &mut Rng) {
-    add_unlike(wait, count, (2, |next| next.outcomes() as usize), idle, rng);
 }
