@@ -1,5 +1,6 @@
 -- A block of columns and rows as words: 2 ^ (right + 1) - 2 ^ left has the digits left to right.
 use mathlib.Core.Path.{_≡_, refl, sym, ap, _∙_}
+use mathlib.Core.Bool.{false}
 use mathlib.Core.List.{List}
 use Prim.Native.Nat.{ℕ, zero, suc, _+_, _-_, _*_, _/_, _%_, _^_, _<_, _≤_}
 use native.Mathlib.Nat.{mul-mod-left, not-suc-le-zero, le-of-suc-le-suc, pow-suc}
@@ -13,7 +14,6 @@ use Rattle.rules.specs.Words.{if_then_else_}
 use Rattle.rules.specs.declared.Board.{Board}
 use Rattle.cells.specs.Cells.{digit}
 use Rattle.cells.specs.Rows.{In, fill, mergedRows, Block, Clipped}
-use Rattle.cells.specs.declared.Way.the-variants.{Both}
 use Rattle.cells.proofs.Digits.{digit-half, digit-mod, digit-high, digit-zero}
 use Rattle.cells.proofs.Fill.{fill-below, fill-above}
 use Rattle.cells.proofs.Words.{zeros, both-in, both-out}
@@ -102,7 +102,7 @@ module _ (left right top bottom : ℕ) (wide : left ≤ right) (low : bottom ≤
   block-filled = record { inside = block-in; only = block-out }
 
 -- what a set has in common with the board's block are its places on the board
-pub clipped-block : (b : Board) (s t : List ℕ) → length s ≡ 21 → length t ≡ 21 → Block 1 (b .columns) 1 (b .rows) t → Clipped b s (mergedRows Both s t)
+pub clipped-block : (b : Board) (s t : List ℕ) → length s ≡ 21 → length t ≡ 21 → Block 1 (b .columns) 1 (b .rows) t → Clipped b s (mergedRows false s t)
 clipped-block b s t long long′ k =
     record {
       inside = λ c r e o. both-in s t long long′ c r e (k .inside c r (o .left) (o .right) (o .top) (o .bottom));

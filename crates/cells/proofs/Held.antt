@@ -15,8 +15,7 @@ use Rattle.rules.specs.declared.Board.{Board}
 use Rattle.rules.proofs.Tests.{same-test, false-of, both, fst, snd, left, right, cases}
 use Rattle.rules.proofs.Places.{cell-place, at-place}
 use Rattle.cells.specs.Cells.{digit, held, Fits}
-use Rattle.cells.specs.Rows.{In, mergedRows, PlaceOf}
-use Rattle.cells.specs.declared.Way.the-variants.{Either, Both, Beyond}
+use Rattle.cells.specs.Rows.{In, mergedRows, beyondRows, PlaceOf}
 use Rattle.cells.proofs.Digits.{one-shl, or-l, or-r, or-one, pow-self, pow-only}
 use Rattle.cells.proofs.Words.{in-empty, either-in, either-out, both-in, both-out, beyond-rows-in, beyond-rows-out}
 
@@ -51,43 +50,43 @@ held-empty b x = false-of (held b (replicate 21 0) x) (λ h. in-empty (columnOf 
 
 -- the cells of either of two sets, and of both
 module _ (b : Board) (s t : List ℕ) (long : length s ≡ 21) (long′ : length t ≡ 21) (x : ℕ) where
-  pub held-either : held b (mergedRows Either s t) x ≡ (held b s x || held b t x)
+  pub held-either : held b (mergedRows true s t) x ≡ (held b s x || held b t x)
   held-either =
-      same-test (held b (mergedRows Either s t) x) (held b s x || held b t x)
+      same-test (held b (mergedRows true s t) x) (held b s x || held b t x)
       (λ h.
-      let i = held-cell b (mergedRows Either s t) x h in
+      let i = held-cell b (mergedRows true s t) x h in
       ⊎-elim (λ e. left (held b s x) (held b t x) (in-held b s x i e)) (λ e. right (held b s x) (held b t x) (in-held b t x i e))
-      (either-out s t long long′ (columnOf b x) (rowOf b x) (held-in b (mergedRows Either s t) x h)))
+      (either-out s t long long′ (columnOf b x) (rowOf b x) (held-in b (mergedRows true s t) x h)))
       (λ h.
       ⊎-elim
-      (λ e. in-held b (mergedRows Either s t) x (held-cell b s x e) (either-in s t long long′ (columnOf b x) (rowOf b x) (inl (held-in b s x e))))
-      (λ e. in-held b (mergedRows Either s t) x (held-cell b t x e) (either-in s t long long′ (columnOf b x) (rowOf b x) (inr (held-in b t x e))))
+      (λ e. in-held b (mergedRows true s t) x (held-cell b s x e) (either-in s t long long′ (columnOf b x) (rowOf b x) (inl (held-in b s x e))))
+      (λ e. in-held b (mergedRows true s t) x (held-cell b t x e) (either-in s t long long′ (columnOf b x) (rowOf b x) (inr (held-in b t x e))))
       (cases (held b s x) (held b t x) h))
 
-  pub held-both : held b (mergedRows Both s t) x ≡ (held b s x && held b t x)
+  pub held-both : held b (mergedRows false s t) x ≡ (held b s x && held b t x)
   held-both =
-      same-test (held b (mergedRows Both s t) x) (held b s x && held b t x)
+      same-test (held b (mergedRows false s t) x) (held b s x && held b t x)
       (λ h.
-      let i = held-cell b (mergedRows Both s t) x h in
-      let e = both-out s t long long′ (columnOf b x) (rowOf b x) (held-in b (mergedRows Both s t) x h) in
+      let i = held-cell b (mergedRows false s t) x h in
+      let e = both-out s t long long′ (columnOf b x) (rowOf b x) (held-in b (mergedRows false s t) x h) in
       both (held b s x) (held b t x) (in-held b s x i (e .0)) (in-held b t x i (e .1)))
       (λ h.
       let p = fst (held b s x) (held b t x) h in
       let q = snd (held b s x) (held b t x) h in
-      in-held b (mergedRows Both s t) x (held-cell b s x p) (both-in s t long long′ (columnOf b x) (rowOf b x) (held-in b s x p) (held-in b t x q)))
+      in-held b (mergedRows false s t) x (held-cell b s x p) (both-in s t long long′ (columnOf b x) (rowOf b x) (held-in b s x p) (held-in b t x q)))
 
-  pub held-beyond : held b (mergedRows Beyond s t) x ≡ (held b s x && not (held b t x))
+  pub held-beyond : held b (beyondRows s t) x ≡ (held b s x && not (held b t x))
   held-beyond =
-      same-test (held b (mergedRows Beyond s t) x) (held b s x && not (held b t x))
+      same-test (held b (beyondRows s t) x) (held b s x && not (held b t x))
       (λ h.
-      let i = held-cell b (mergedRows Beyond s t) x h in
-      let e = beyond-rows-out s t long long′ (columnOf b x) (rowOf b x) (held-in b (mergedRows Beyond s t) x h) in
+      let i = held-cell b (beyondRows s t) x h in
+      let e = beyond-rows-out s t long long′ (columnOf b x) (rowOf b x) (held-in b (beyondRows s t) x h) in
       both (held b s x) (not (held b t x)) (in-held b s x i (e .0)) (not-T (held b t x) (λ g. e .1 (held-in b t x g))))
       (λ h.
       let p = fst (held b s x) (not (held b t x)) h in
       let q = T-not (held b t x) (snd (held b s x) (not (held b t x)) h) in
       let i = held-cell b s x p in
-      in-held b (mergedRows Beyond s t) x i (beyond-rows-in s t long long′ (columnOf b x) (rowOf b x) (held-in b s x p) (λ e. q (in-held b t x i e))))
+      in-held b (beyondRows s t) x i (beyond-rows-in s t long long′ (columnOf b x) (rowOf b x) (held-in b s x p) (λ e. q (in-held b t x i e))))
 
 -- one cell more: the digit of its column is set in the word of its row
 module _ (b : Board) (s : List ℕ) (x : ℕ) (long : length s ≡ 21) (fits : Fits b) (cell : T (isCell b x)) where

@@ -1,6 +1,6 @@
 -- The joining test: what the first side grows to inside the board's cells has a cell of the last side exactly where a chain joins the two.
 use mathlib.Core.Path.{_≡_, sym, ap, _∙_, subst, subst⁻¹}
-use mathlib.Core.Bool.{Bool, not}
+use mathlib.Core.Bool.{Bool, false, not}
 use mathlib.Core.List.{List}
 use Prim.Native.Nat.{ℕ}
 use native.Mathlib.Omega.{arith}
@@ -17,7 +17,6 @@ use Rattle.rules.proofs.Joining.{chain-from, joined→joins, joins→joined}
 use Rattle.rules.proofs.Places.{cell-place, at-place, column-at, row-at, cell-at}
 use Rattle.cells.specs.Cells.{held, Fits}
 use Rattle.cells.specs.Rows.{In, mergedRows, Clipped, Side}
-use Rattle.cells.specs.declared.Way.the-variants.{Both}
 use Rattle.cells.specs.Growing.{Linked, own, next, Framed, Closure}
 use Rattle.cells.proofs.Held.{held-cell, held-in, in-held}
 use Rattle.cells.proofs.Neighbours.{neighbour-near, near-neighbour}
@@ -42,9 +41,9 @@ chain-to (step y h n c) = chain-to c
 module _ (b : Board) (p : Player) (fits : Fits b) (s cells first last all : List ℕ)
     (long-cells : length cells ≡ 21) (long-first : length first ≡ 21) (long-last : length last ≡ 21) (long-all : length all ≡ 21)
     (cl : Clipped b s cells) (fs : Side b (onFirstSide b p) first) (ls : Side b (onLastSide b p) last)
-    (grew : Closure cells (mergedRows Both cells first) all) where
+    (grew : Closure cells (mergedRows false cells first) all) where
   abbrev Reach : ℕ → ℕ → Type 0
-  Reach c r = Linked cells (mergedRows Both cells first) c r
+  Reach c r = Linked cells (mergedRows false cells first) c r
 
   reach-in : (c r : ℕ) → Reach c r → In cells c r
   reach-in c r (own i) = both-out cells first long-cells long-first c r i .0
@@ -87,10 +86,10 @@ module _ (b : Board) (p : Player) (fits : Fits b) (s cells first last all : List
   chain-reach z x (step y h n ch) l = chain-reach z y ch (next l (neighbour-near b x y n) (cell-in y (chain-from ch)))
 
   abbrev found : ℕ → Bool
-  found = held b (mergedRows Both all last)
+  found = held b (mergedRows false all last)
 
   -- no place of it is off the board
-  found-clipped : Clipped b (mergedRows Both all last) (mergedRows Both all last)
+  found-clipped : Clipped b (mergedRows false all last) (mergedRows false all last)
   found-clipped =
       record {
         inside = λ c r e o. e;
@@ -101,7 +100,7 @@ module _ (b : Board) (p : Player) (fits : Fits b) (s cells first last all : List
   found-joins h =
       let t = smallest-held b found h in
       let x : ℕ = smallest b found in
-      let i = both-out all last long-all long-last (columnOf b x) (rowOf b x) (held-in b (mergedRows Both all last) x (t .1)) in
+      let i = both-out all last long-all long-last (columnOf b x) (rowOf b x) (held-in b (mergedRows false all last) x (t .1)) in
       let l = grew .sound (columnOf b x) (rowOf b x) (i .0) in
       let f = reach-from x (columnOf b x) (rowOf b x) l (goes x (t .0) (reach-in (columnOf b x) (rowOf b x) l)) in
       record {
@@ -123,13 +122,13 @@ module _ (b : Board) (p : Player) (fits : Fits b) (s cells first last all : List
       let l = chain-reach (j .to) (j .from) (j .chain) start in
       let i = held-cell b s (j .to) (chain-to (j .chain)) in
       smallest-none b found e (j .to) i
-      (in-held b (mergedRows Both all last) (j .to) i
+      (in-held b (mergedRows false all last) (j .to) i
       (both-in all last long-all long-last (columnOf b (j .to)) (rowOf b (j .to)) (grew .whole (columnOf b (j .to)) (rowOf b (j .to)) l)
       (ls .inside (j .to) i (j .to-last))))
 
-  pub reached-joined : (n : ℕ) {words : List ℕ} → words ≡ mergedRows Both all last → ((t : List ℕ) → Clipped b t words → n ≡ smallest b (held b t)) → not (eqb n 0) ≡ joined b p (held b s)
+  pub reached-joined : (n : ℕ) {words : List ℕ} → words ≡ mergedRows false all last → ((t : List ℕ) → Clipped b t words → n ≡ smallest b (held b t)) → not (eqb n 0) ≡ joined b p (held b s)
   reached-joined n w low =
-      let e : n ≡ smallest b found = low (mergedRows Both all last) (subst⁻¹ (Clipped b (mergedRows Both all last)) w found-clipped) in
+      let e : n ≡ smallest b found = low (mergedRows false all last) (subst⁻¹ (Clipped b (mergedRows false all last)) w found-clipped) in
       same-test (not (eqb n 0)) (joined b p (held b s))
       (λ h. joins→joined b p (held b s) (found-joins (λ z. subst T (ap not (eq-eqb n 0 (e ∙ z))) h)))
       (λ h. holds-of (ap not (ne-eqb n 0 (λ z. joins-found (joined→joins b p (held b s) h) (sym e ∙ z)))))

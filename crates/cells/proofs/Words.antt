@@ -1,15 +1,15 @@
 -- Digits of row words: of filled lists, of merged rows, of the empty set.
 use mathlib.Core.Path.{_≡_, refl, subst}
+use mathlib.Core.Bool.{true, false}
 use mathlib.Core.Logic.{_⊎_, ⊎-elim}
 use mathlib.Core.List.{List}
 use Prim.Native.Nat.{ℕ, zero, suc, _<_}
 use native.Mathlib.Decide.{decLt}
 use native.Mathlib.Omega.{arith}
-use lib.Bits.{bitAnd, bitOr, bitXor}
+use lib.Bits.{bitAnd, bitOr}
 use lib.ListN.{length, getD, replicate, List·getD-eq-default}
 use Rattle.cells.specs.Cells.{digit}
-use Rattle.cells.specs.Rows.{In, fill, mergedRows}
-use Rattle.cells.specs.declared.Way.the-variants.{Either, Both, Beyond}
+use Rattle.cells.specs.Rows.{In, fill, mergedRows, beyondRow, beyondRows}
 use Rattle.cells.proofs.Digits.{or-l, or-r, or-one, and-both, and-l, and-r, beyond-in, beyond-l, beyond-r, digit-zero}
 use Rattle.cells.proofs.Fill.{fill-below, fill-above}
 
@@ -43,28 +43,28 @@ pub in-empty : (c r : ℕ) → In (replicate 21 0) c r → ⊥
 in-empty c r e = digit-zero c (subst (λ (x : ℕ). digit x c ≡ 1) (zeros 21 r) e)
 
 module _ (s t : List ℕ) (long : length s ≡ 21) (long′ : length t ≡ 21) (c r : ℕ) where
-  pub either-in : In s c r ⊎ In t c r → In (mergedRows Either s t) c r
+  pub either-in : In s c r ⊎ In t c r → In (mergedRows true s t) c r
   either-in h =
       ⊎-elim (λ e. filled-in (λ k. bitOr (getD s k 0) (getD t k 0)) s long c r (in-long s c r long e) (or-l (getD s r 0) (getD t r 0) c e))
       (λ e. filled-in (λ k. bitOr (getD s k 0) (getD t k 0)) s long c r (in-long t c r long′ e) (or-r (getD s r 0) (getD t r 0) c e)) h
 
-  pub either-out : In (mergedRows Either s t) c r → In s c r ⊎ In t c r
+  pub either-out : In (mergedRows true s t) c r → In s c r ⊎ In t c r
   either-out e = or-one (getD s r 0) (getD t r 0) c (filled-out (λ k. bitOr (getD s k 0) (getD t k 0)) s long c r e)
 
-  pub both-in : In s c r → In t c r → In (mergedRows Both s t) c r
+  pub both-in : In s c r → In t c r → In (mergedRows false s t) c r
   both-in e g =
       filled-in (λ k. bitAnd (getD s k 0) (getD t k 0)) s long c r (in-long s c r long e) (and-both (getD s r 0) (getD t r 0) c e g)
 
-  pub both-out : In (mergedRows Both s t) c r → In s c r × In t c r
+  pub both-out : In (mergedRows false s t) c r → In s c r × In t c r
   both-out e =
       let d = filled-out (λ k. bitAnd (getD s k 0) (getD t k 0)) s long c r e in
       (and-l (getD s r 0) (getD t r 0) c d, and-r (getD s r 0) (getD t r 0) c d)
 
-  pub beyond-rows-in : In s c r → (In t c r → ⊥) → In (mergedRows Beyond s t) c r
+  pub beyond-rows-in : In s c r → (In t c r → ⊥) → In (beyondRows s t) c r
   beyond-rows-in e g =
-      filled-in (λ k. bitXor (getD s k 0) (bitAnd (getD s k 0) (getD t k 0))) s long c r (in-long s c r long e) (beyond-in (getD s r 0) (getD t r 0) c e g)
+      filled-in (λ k. beyondRow (getD s k 0) (getD t k 0)) s long c r (in-long s c r long e) (beyond-in (getD s r 0) (getD t r 0) c e g)
 
-  pub beyond-rows-out : In (mergedRows Beyond s t) c r → In s c r × (In t c r → ⊥)
+  pub beyond-rows-out : In (beyondRows s t) c r → In s c r × (In t c r → ⊥)
   beyond-rows-out e =
-      let d = filled-out (λ k. bitXor (getD s k 0) (bitAnd (getD s k 0) (getD t k 0))) s long c r e in
+      let d = filled-out (λ k. beyondRow (getD s k 0) (getD t k 0)) s long c r e in
       (beyond-l (getD s r 0) (getD t r 0) c d, beyond-r (getD s r 0) (getD t r 0) c d)

@@ -1,5 +1,5 @@
 -- What the parts of the code do to the row words.
-use mathlib.Core.Bool.{Bool}
+use mathlib.Core.Bool.{Bool, true, false}
 use mathlib.Core.List.{List, [], _∷_}
 use mathlib.Core.Path.{_≡_}
 use Prim.Native.Nat.{ℕ, zero, suc, _≤_}
@@ -9,8 +9,6 @@ use lib.Dec.{T}
 use Rattle.rules.specs.Board.{On, isCell, columnOf, rowOf}
 use Rattle.rules.specs.declared.Board.{Board}
 use Rattle.cells.specs.Cells.{digit}
-use Rattle.cells.specs.declared.Way.{Way}
-use Rattle.cells.specs.declared.Way.the-variants.{Either, Both, Beyond}
 
 -- digit c of word r is set
 abbrev pub In : List ℕ → ℕ → ℕ → Type 0
@@ -22,14 +20,20 @@ fill f zero a = a
 fill f (suc n) [] = []
 fill f (suc n) (x ∷ a) = f zero ∷ fill (λ k. f (suc k)) n a
 
--- the cells of either of two rows, of both, or of the first and not the second
-abbrev pub mergedRow : Way → ℕ → ℕ → ℕ
-mergedRow Either a b = bitOr a b
-mergedRow Both a b = bitAnd a b
-mergedRow Beyond a b = bitXor a (bitAnd a b)
+-- the cells of either of two rows, or of both
+abbrev pub mergedRow : Bool → ℕ → ℕ → ℕ
+mergedRow true a b = bitOr a b
+mergedRow false a b = bitAnd a b
 
-abbrev pub mergedRows : Way → List ℕ → List ℕ → List ℕ
-mergedRows way s t = fill (λ k. mergedRow way (getD s k 0) (getD t k 0)) 21 s
+abbrev pub mergedRows : Bool → List ℕ → List ℕ → List ℕ
+mergedRows either s t = fill (λ k. mergedRow either (getD s k 0) (getD t k 0)) 21 s
+
+-- the cells of one row that are not in the other
+abbrev pub beyondRow : ℕ → ℕ → ℕ
+beyondRow a b = bitXor a (bitAnd a b)
+
+abbrev pub beyondRows : List ℕ → List ℕ → List ℕ
+beyondRows s t = fill (λ k. beyondRow (getD s k 0) (getD t k 0)) 21 s
 
 -- column c and row r are those of the cell x, and stand inside the words
 pub record PlaceOf (b : Board) (x c r : ℕ) : Type 0 where

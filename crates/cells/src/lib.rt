@@ -11,7 +11,7 @@ ghost use Rattle.rules.specs.Board.{isCell, onFirstSide, onLastSide, listed, sm
 ghost use Rattle.rules.specs.Joining.{joined};
 ghost use Rattle.rules.specs.declared.Board as declared;
 ghost use Rattle.cells.specs.Cells.{held, Fits, Listed};
-ghost use Rattle.cells.specs.Rows.{mergedRow, mergedRows, PlaceOf, Block, Clipped, Side};
+ghost use Rattle.cells.specs.Rows.{mergedRow, mergedRows, beyondRow, PlaceOf, Block, Clipped, Side};
 ghost use Rattle.cells.specs.Growing.{grownRow, Framed, Closure};
 use rules::Board;
 use rules::Player;
@@ -48,33 +48,29 @@ fn placed(board: Board, cell: usize) -> Place
     }
 }
 
-// Which cells of two sets are taken: those of either, those of both, or those of the first that are not in the second.
-enum Way {
-    Either,
-    Both,
-    Beyond,
-}
-
-// The words of two sets, merged row by row.
-fn merged(a: Cells, b: Cells, way: Way) -> Cells
-    ensures { λ r. ⌜ r .rows ≡ mergedRows way (a .rows) (b .rows) ⌝ }
+// The words of either set, or those of both, row by row.
+fn merged(a: Cells, b: Cells, either: bool) -> Cells
+    ensures { λ r. ⌜ r .rows ≡ mergedRows either (a .rows) (b .rows) ⌝ }
 {
     let mut out = a;
     for i in 0..21 {
-        out.rows[i] = merged_row(out.rows[i], b.rows[i], way);
+        out.rows[i] = merged_row(out.rows[i], b.rows[i], either);
     }
     out
 }
 
 // One row of that.
-fn merged_row(a: u32, b: u32, way: Way) -> u32
-    ensures { λ r. ⌜ r ≡ mergedRow way a b ⌝ }
+fn merged_row(a: u32, b: u32, either: bool) -> u32
+    ensures { λ r. ⌜ r ≡ mergedRow either a b ⌝ }
 {
-    match way {
-        Way::Either => a | b,
-        Way::Both => a & b,
-        Way::Beyond => a ^ (a & b),
-    }
+    if either { a | b } else { a & b }
+}
+
+// One row of the cells of one set that are not in the other.
+fn beyond_row(a: u32, b: u32) -> u32
+    ensures { λ r. ⌜ r ≡ beyondRow a b ⌝ }
+{
+    a ^ (a & b)
 }
 
 // The places from column left to column right, in the rows from top to bottom.
@@ -95,7 +91,7 @@ fn clipped(set: Cells, board: Board) -> Cells
     requires { ⌜ Fits board ⌝ }
     ensures { λ r. ⌜ Clipped board (set .rows) (r .rows) ⌝ }
 {
-    merged(set, block(1, board.columns, 1, board.rows), Way::Both)
+    merged(set, block(1, board.columns, 1, board.rows), false)
 }
 
 // A row with those of the row's cells that touch it, or the rows above and below.
@@ -201,21 +197,25 @@ impl Cells {
     pub fn union(self, other: Cells) -> Self
         ensures { λ r. ⌜ ((b : declared.Board) (x : ℕ) → held b (r .rows) x ≡ (held b (self .rows) x || held b (other .rows) x)) ⌝ }
     {
-        merged(self, other, Way::Either)
+        merged(self, other, true)
     }
 
     // The cells of one set and the other.
     pub fn meet(self, other: Cells) -> Self
         ensures { λ r. ⌜ ((b : declared.Board) (x : ℕ) → held b (r .rows) x ≡ (held b (self .rows) x && held b (other .rows) x)) ⌝ }
     {
-        merged(self, other, Way::Both)
+        merged(self, other, false)
     }
 
-    // The cells of one set that are not in the other.
+    // The cells of one set that are not in the other. (A third way of `merged` would slow the other two.)
     pub fn beyond(self, other: Cells) -> Self
         ensures { λ r. ⌜ ((b : declared.Board) (x : ℕ) → held b (r .rows) x ≡ (held b (self .rows) x && not (held b (other .rows) x))) ⌝ }
     {
-        merged(self, other, Way::Beyond)
+        let mut out = self;
+        for i in 0..21 {
+            out.rows[i] = beyond_row(out.rows[i], other.rows[i]);
+        }
+        out
     }
 
     // The smallest cell of the board in the set; 0 where there is none.
@@ -232,9 +232,9 @@ impl Cells {
         ensures { λ r. ⌜ r ≡ joined board player (held board (self .rows)) ⌝ }
     {
         let cells = clipped(self, board);
-        let start = merged(cells, first_side(board, player), Way::Both);
+        let start = merged(cells, first_side(board, player), false);
         let all = closure(cells, start, board.rows);
-        lowest(merged(all, last_side(board, player), Way::Both), board) != 0
+        lowest(merged(all, last_side(board, player), false), board) != 0
     }
 
     // How many cells of the board are in the set.

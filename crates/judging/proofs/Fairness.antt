@@ -1,5 +1,5 @@
 -- 20, 10, 24, 11 and 12 of a held sheet, each with those after it, from what the searches and the table tell.
-use mathlib.Core.Path.{_≡_, sym, ap, ap₂, _∙_, subst, subst⁻¹}
+use mathlib.Core.Path.{_≡_, refl, sym, ap, ap₂, _∙_, subst, subst⁻¹}
 use mathlib.Core.Bool.{_||_}
 use mathlib.Core.List.{List}
 use mathlib.Core.Option.{Option, none, some}
@@ -9,7 +9,7 @@ use native.Mathlib.Omega.{arith}
 use borrow.Author.Tests.{lt-ltb, le-ltb}
 use Rattle.rules.specs.Sizes.{mostNodes, mostOutcomes}
 use Rattle.rules.specs.Tree.{Sheet, setUpCells}
-use Rattle.rules.specs.Reading.{Result, refused}
+use Rattle.rules.specs.Reading.{Result, refused, got}
 use Rattle.rules.specs.Fair.{Fault, firstOnSetUp, firstNotApart, firstTwice, firstNotElusive}
 use Rattle.rules.specs.Outcomes.{outcomeCount}
 use Rattle.rules.specs.Entries.{_>>=_, refuseIf, refuseFault, fair}
@@ -17,6 +17,7 @@ use Rattle.rules.specs.declared.Board.{Board}
 use Rattle.rules.specs.declared.Verdict.{Verdict}
 use Rattle.rules.specs.declared.Verdict.the-variants.{OnSetUp, NotApart, NotElusive, TooManyOutcomes, SameBranch}
 use Rattle.rules.proofs.Lists.{none-long}
+use Rattle.rules.proofs.Steps.{then-got, refuseFault-got}
 use Rattle.rules.proofs.SetUp.{either-side}
 use Rattle.rules.specs.Plain.{AllElusive}
 use Rattle.rules.proofs.Given.{bare-free, none-elusive}
@@ -29,7 +30,9 @@ use Rattle.nodes.proofs.Sheets.{living-count}
 use Rattle.fair.specs.Faults.{faultSeen, FaultLow, FaultFound}
 use Rattle.fair.specs.declared.Fault as answered
 use Rattle.live.specs.Thinning.{KeepsLive}
-use Rattle.judging.specs.Checked.{fromApart, fromTwice, fromElusive, fromCount, Passed, Tells}
+use Rattle.judging.specs.Checked.{fromFree, fromApart, fromTwice, fromElusive, fromCount, Says, Passed, Tells}
+use Rattle.judging.specs.declared.Checked.{Checked}
+use Rattle.judging.specs.declared.Checked.the-variants as Checked
 use Rattle.judging.specs.declared.FairRead.{FairRead}
 
 -- a search for a fault, and the checks after it
@@ -43,12 +46,12 @@ module _ (verdict : ℕ → ℕ → Verdict) (after : Result Sheet) where
       rw (found, l)
 
   -- it was not: the checks after it decide
-  no-fault : (v : List ℕ) (b : Board) (s : Sheet) (f : Option Fault) (r : answered.Fault) → FaultFound s f r → r ≡ answered.the-variants.Nothing
-      → (a : FairRead) → Tells v b s after a → Tells v b s (refuseFault verdict f >>= λ u. after) a
+  no-fault : (s : Sheet) (f : Option Fault) (r : answered.Fault) → FaultFound s f r → r ≡ answered.the-variants.Nothing
+      → (a : Checked) → Says s after a → Says s (refuseFault verdict f >>= λ u. after) a
   unfolding refuseFault _>>=_
-  no-fault v b s f r h e a t =
+  no-fault s f r h e a t =
       let clean : f ≡ none = sym (h .seen) ∙ ap (faultSeen (s .root .line)) e in
-      subst⁻¹ (λ (z : Result Sheet). Tells v b s z a) (ap (λ (o : Option Fault). refuseFault verdict o >>= λ u. after) clean) t
+      subst⁻¹ (λ (z : Result Sheet). Says s z a) (ap (λ (o : Option Fault). refuseFault verdict o >>= λ u. after) clean) t
 
 -- the two sets together are all set-up stones
 pub all-stones : {b : Board} {s : Sheet} {u : SetUp} → HoldsSetUp b s u → (rows : List ℕ) → ((x : ℕ) → held b rows x ≡ (held b (u .own .rows) x || held b (u .opp .rows) x))
@@ -67,13 +70,13 @@ module _ {t : List ℕ} {b : Board} {s : Sheet} (h : HoldsSheet t b s) where
 
     -- 20
     module _ (r : answered.Fault) (k : FaultFound s (firstOnSetUp s) r) where
-      pub not-free-told : (i c line : ℕ) → r ≡ answered.the-variants.At i c → line ≡ i + first → fair s ≡ refused (OnSetUp line c)
-      unfolding fair
+      pub not-free-told : (i c line : ℕ) → r ≡ answered.the-variants.At i c → line ≡ i + first → fromFree s ≡ refused (OnSetUp line c)
+      unfolding fromFree
       not-free-told i c line e l = at-fault OnSetUp _ s (firstOnSetUp s) r i c line k e (on-line i line l)
 
-      pub free-told : r ≡ answered.the-variants.Nothing → (v : List ℕ) (a : FairRead) → Tells v b s (fromApart s) a → Tells v b s (fair s) a
-      unfolding fair fromApart fromTwice fromElusive fromCount
-      free-told e v a = no-fault OnSetUp (fromApart s) v b s (firstOnSetUp s) r k e a
+      pub free-told : r ≡ answered.the-variants.Nothing → (a : Checked) → Says s (fromApart s) a → Says s (fromFree s) a
+      unfolding fromFree
+      free-told e a = no-fault OnSetUp (fromApart s) s (firstOnSetUp s) r k e a
 
     -- 10
     module _ (r : answered.Fault) (k : FaultFound s (firstNotApart s) r) where
@@ -81,9 +84,9 @@ module _ {t : List ℕ} {b : Board} {s : Sheet} (h : HoldsSheet t b s) where
       unfolding fromApart
       not-apart-told i c line e l = at-fault NotApart _ s (firstNotApart s) r i c line k e (on-line i line l)
 
-      pub apart-told : r ≡ answered.the-variants.Nothing → (v : List ℕ) (a : FairRead) → Tells v b s (fromTwice s) a → Tells v b s (fromApart s) a
+      pub apart-told : r ≡ answered.the-variants.Nothing → (a : Checked) → Says s (fromTwice s) a → Says s (fromApart s) a
       unfolding fromApart
-      apart-told e v a = no-fault NotApart (fromTwice s) v b s (firstNotApart s) r k e a
+      apart-told e a = no-fault NotApart (fromTwice s) s (firstNotApart s) r k e a
 
     -- 24
     module _ (r : answered.Fault) (k : FaultFound s (firstTwice s) r) where
@@ -91,9 +94,9 @@ module _ {t : List ℕ} {b : Board} {s : Sheet} (h : HoldsSheet t b s) where
       unfolding fromTwice
       twice-told i c line e l = at-fault (λ line cell. SameBranch line) _ s (firstTwice s) r i c line k e (on-line i line l)
 
-      pub single-told : r ≡ answered.the-variants.Nothing → (v : List ℕ) (a : FairRead) → Tells v b s (fromElusive s) a → Tells v b s (fromTwice s) a
+      pub single-told : r ≡ answered.the-variants.Nothing → (a : Checked) → Says s (fromElusive s) a → Says s (fromTwice s) a
       unfolding fromTwice
-      single-told e v a = no-fault (λ line cell. SameBranch line) (fromElusive s) v b s (firstTwice s) r k e a
+      single-told e a = no-fault (λ line cell. SameBranch line) (fromElusive s) s (firstTwice s) r k e a
 
     -- 11
     module _ (r : answered.Fault) (k : FaultFound s (firstNotElusive s) r) where
@@ -101,20 +104,58 @@ module _ {t : List ℕ} {b : Board} {s : Sheet} (h : HoldsSheet t b s) where
       unfolding fromElusive
       not-elusive-told i c line e l = at-fault NotElusive _ s (firstNotElusive s) r i c line k e (on-line i line l)
 
-      pub elusive-told : r ≡ answered.the-variants.Nothing → (v : List ℕ) (a : FairRead) → Tells v b s (fromCount s) a → Tells v b s (fromElusive s) a
+      pub elusive-told : r ≡ answered.the-variants.Nothing → fromElusive s ≡ got s
       unfolding fromElusive
-      elusive-told e v a = no-fault NotElusive (fromCount s) v b s (firstNotElusive s) r k e a
+      elusive-told e = no-fault NotElusive (got s) s (firstNotElusive s) r k e Checked.Passed refl
 
     -- where the first node stands on line 2 no stone was set up, so no move is on one
-    pub none-told : first ≡ 2 → (v : List ℕ) (a : FairRead) → Tells v b s (fromApart s) a → Tells v b s (fair s) a
-    unfolding fair fromApart fromTwice fromElusive fromCount refuseFault _>>=_
-    none-told e v a t =
+    pub none-told : first ≡ 2 → (a : Checked) → Says s (fromApart s) a → Says s (fromFree s) a
+    unfolding fromFree refuseFault _>>=_
+    none-told e a t =
         let none-set-up : length (s .set-up) ≡ 0 = omega (arith, on, h .well .first-line) in
-        subst⁻¹ (λ (z : Result Sheet). Tells v b s z a) (ap (λ (o : Option Fault). refuseFault OnSetUp o >>= λ u. fromApart s) (bare-free s (none-long (s .set-up) none-set-up))) t
+        subst⁻¹ (λ (z : Result Sheet). Says s z a) (ap (λ (o : Option Fault). refuseFault OnSetUp o >>= λ u. fromApart s) (bare-free s (none-long (s .set-up) none-set-up))) t
 
--- 11 is not given: the sheet is elusive
-pub is-elusive : (s : Sheet) (r : answered.Fault) → FaultFound s (firstNotElusive s) r → r ≡ answered.the-variants.Nothing → AllElusive s
-is-elusive s r k e = none-elusive s (sym (k .seen) ∙ ap (faultSeen (s .root .line)) e)
+-- a sheet that passes them is elusive
+pub is-elusive : (s : Sheet) → fromFree s ≡ got s → AllElusive s
+unfolding fromFree fromApart fromTwice fromElusive
+is-elusive s e =
+    let a = then-got (refuseFault OnSetUp (firstOnSetUp s)) _ s e in
+    let b = then-got (refuseFault NotApart (firstNotApart s)) _ s (a .2) in
+    let c = then-got (refuseFault (λ line cell. SameBranch line) (firstTwice s)) _ s (b .2) in
+    let d = then-got (refuseFault NotElusive (firstNotElusive s)) _ s (c .2) in
+    none-elusive s (refuseFault-got NotElusive (firstNotElusive s) (d .0) (d .1))
+
+-- what they said, and 12 after them
+module _ (s : Sheet) where
+  then-count : {X Y Z : Type 0} (r : Result X) (f : Result Y) (g : Y → Result Z) → (r >>= (λ u. f) >>= g) ≡ (r >>= λ u. f >>= g)
+  unfolding _>>=_
+  then-count (refused v) f g = refl
+  then-count (got x) f g = refl
+
+  fair-parts : fair s ≡ (fromFree s >>= fromCount)
+  unfolding fair fromFree fromApart fromTwice fromElusive fromCount
+  fair-parts =
+      sym
+      (then-count (refuseFault OnSetUp (firstOnSetUp s)) _ fromCount
+      ∙ ap (λ (z : Result Sheet). refuseFault OnSetUp (firstOnSetUp s) >>= λ u. z)
+      (then-count (refuseFault NotApart (firstNotApart s)) _ fromCount
+      ∙ ap (λ (z : Result Sheet). refuseFault NotApart (firstNotApart s) >>= λ u. z)
+      (then-count (refuseFault (λ line cell. SameBranch line) (firstTwice s)) _ fromCount
+      ∙ ap (λ (z : Result Sheet). refuseFault (λ line cell. SameBranch line) (firstTwice s) >>= λ u. z)
+      (then-count (refuseFault NotElusive (firstNotElusive s)) _ fromCount ∙ unfold _>>=_ in refl))))
+
+  module _ (r : Checked) (h : Says s (fromFree s) r) where
+    pub said-passed : r ≡ Checked.Passed → fromFree s ≡ got s
+    said-passed e = subst (Says s (fromFree s)) e h
+
+    pub said-refused : (v : Verdict) → r ≡ Checked.Refused v → fair s ≡ refused v
+    unfolding _>>=_
+    said-refused v e = fair-parts ∙ ap (λ (z : Result Sheet). z >>= fromCount) (subst (Says s (fromFree s)) e h)
+
+    pub said-told : r ≡ Checked.Passed → (t : List ℕ) (b : Board) (a : FairRead) → Tells t b s (fromCount s) a → Tells t b s (fair s) a
+    unfolding _>>=_
+    said-told e t b a k =
+        subst⁻¹ (λ (z : Result Sheet). Tells t b s z a) (fair-parts ∙ ap (λ (z : Result Sheet). z >>= fromCount) (said-passed e)) k
 
 -- 12: the table has the count of outcomes, kept at one past the most
 module _ {t : List ℕ} {b : Board} {s : Sheet} {idle : ℕ} (h : KeepsLive t b s idle) (count : ℕ) (e : count ≡ countIn t 0) where

@@ -5,26 +5,23 @@ use mathlib.Core.List.{List}
 use lib.Dec.{ltb}
 use Rattle.rules.specs.Sizes.{mostOutcomes}
 use Rattle.rules.specs.Tree.{Sheet}
-use Rattle.rules.specs.Fair.{firstNotApart, firstTwice, firstNotElusive}
+use Rattle.rules.specs.Fair.{firstOnSetUp, firstNotApart, firstTwice, firstNotElusive}
 use Rattle.rules.specs.Reading.{Result, refused, got}
 use Rattle.rules.specs.Outcomes.{outcomeCount}
 use Rattle.rules.specs.Entries.{_>>=_, refuseIf, refuseFault, fair, satisfying}
 use Rattle.rules.specs.declared.Board.{Board}
-use Rattle.rules.specs.declared.Verdict.the-variants.{NotApart, NotElusive, TooManyOutcomes, SameBranch}
+use Rattle.rules.specs.declared.Verdict.the-variants.{OnSetUp, NotApart, NotElusive, TooManyOutcomes, SameBranch}
 use Rattle.live.specs.Thinning.{KeepsLive}
+use Rattle.judging.specs.declared.Checked.{Checked}
+use Rattle.judging.specs.declared.Checked.the-variants as Checked
 use Rattle.judging.specs.declared.FairRead.{FairRead}
 use Rattle.judging.specs.declared.FairRead.the-variants as FairRead
 
--- the checks of `fair` from 12 on, from 11 on, from 24 on, and from 10 on; from 20 on it is `fair`
-unfoldable pub fromCount : Sheet → Result Sheet
-fromCount s = do
-  _ ← refuseIf (ltb mostOutcomes (outcomeCount s)) TooManyOutcomes
-  got s
-
+-- the checks over every line: 11, from 24 on, from 10 on, and from 20 on
 unfoldable pub fromElusive : Sheet → Result Sheet
 fromElusive s = do
   _ ← refuseFault NotElusive (firstNotElusive s)
-  fromCount s
+  got s
 
 unfoldable pub fromTwice : Sheet → Result Sheet
 fromTwice s = do
@@ -35,6 +32,22 @@ unfoldable pub fromApart : Sheet → Result Sheet
 fromApart s = do
   _ ← refuseFault NotApart (firstNotApart s)
   fromTwice s
+
+unfoldable pub fromFree : Sheet → Result Sheet
+fromFree s = do
+  _ ← refuseFault OnSetUp (firstOnSetUp s)
+  fromApart s
+
+-- and then 12
+unfoldable pub fromCount : Sheet → Result Sheet
+fromCount s = do
+  _ ← refuseIf (ltb mostOutcomes (outcomeCount s)) TooManyOutcomes
+  got s
+
+-- what they say of a sheet
+abbrev pub Says : Sheet → Result Sheet → Checked → Type 0
+Says s check Checked.Passed = check ≡ got s
+Says s check (Checked.Refused v) = check ≡ refused v
 
 -- 20, 10, 24, 11, 12, 13
 abbrev pub passing : Sheet → Result Sheet

@@ -8,7 +8,7 @@ ghost use Rattle.rules.specs.Entries.{fair, judged};
 ghost use Rattle.rules.specs.declared.Board as declared;
 ghost use Rattle.nodes.specs.Sheets.{HoldsSheet, SomeSheet, HoldsWhole, SomeWhole};
 ghost use Rattle.live.specs.Thinning.{KeepsLive};
-ghost use Rattle.judging.specs.Checked.{fromApart, fromTwice, fromElusive, fromCount, passing, SomeLiving, Tells};
+ghost use Rattle.judging.specs.Checked.{fromFree, fromApart, fromTwice, fromElusive, fromCount, passing, SomeLiving, Says, Tells};
 use fair::Fault;
 use fair::branch_twice;
 use fair::not_apart;
@@ -32,12 +32,93 @@ pub enum FairRead {
     Refused { verdict: Verdict },
 }
 
+// What the checks over every line come to.
+enum Checked {
+    Passed,
+    Refused { verdict: Verdict },
+}
+
 // The line of a node, by the line of the first one.
 fn line_of(node: usize, first: u32) -> u32
     requires { ⌜ (node < mostNodes) × (first ≤ mostBytes + 2) ⌝ }
     ensures { λ r. ⌜ r ≡ node + first ⌝ }
 {
     node as u32 + first
+}
+
+// 11: a wait that is not elusive.
+fn elusive_on(table: &[u32], board: Board, first: u32) -> Checked
+    requires holds { ⌜ SomeSheet (now table) board ⌝ }
+    requires low { ⌜ first ≤ mostBytes + 2 ⌝ }
+    ensures { λ r. ⌜ ((s : Sheet) → HoldsSheet (now (table .entry)) board s → first ≡ s .root .line → Says s (fromElusive s) r) ⌝ }
+{
+    if let Fault::At { node, cell } = not_elusive(table, board) {
+        let line = line_of(node, first);
+        return Checked::Refused {
+            verdict: Verdict::NotElusive { line, cell },
+        };
+    }
+    Checked::Passed
+}
+
+// 24: a wait that has a branch twice; and then 11.
+fn single_on(table: &[u32], board: Board, first: u32) -> Checked
+    requires holds { ⌜ SomeSheet (now table) board ⌝ }
+    requires low { ⌜ first ≤ mostBytes + 2 ⌝ }
+    ensures { λ r. ⌜ ((s : Sheet) → HoldsSheet (now (table .entry)) board s → first ≡ s .root .line → Says s (fromTwice s) r) ⌝ }
+{
+    if let Fault::At { node, .. } = branch_twice(table) {
+        let line = line_of(node, first);
+        return Checked::Refused {
+            verdict: Verdict::SameBranch { line },
+        };
+    }
+    elusive_on(table, board, first)
+}
+
+// 10: a move that is not apart; and then 24, 11.
+fn apart_on(table: &[u32], board: Board, first: u32) -> Checked
+    requires holds { ⌜ SomeSheet (now table) board ⌝ }
+    requires low { ⌜ first ≤ mostBytes + 2 ⌝ }
+    ensures { λ r. ⌜ ((s : Sheet) → HoldsSheet (now (table .entry)) board s → first ≡ s .root .line → Says s (fromApart s) r) ⌝ }
+{
+    if let Fault::At { node, cell } = not_apart(table, board) {
+        let line = line_of(node, first);
+        return Checked::Refused {
+            verdict: Verdict::NotApart { line, cell },
+        };
+    }
+    single_on(table, board, first)
+}
+
+// 20: a move on a set-up stone; and then 10, 24, 11.
+fn free_on(table: &[u32], board: Board, setup: SetUp) -> Checked
+    requires { ⌜ SomeWhole (now table) board setup ⌝ }
+    ensures { λ r. ⌜ ((s : Sheet) → HoldsWhole (now (table .entry)) board setup s → Says s (fromFree s) r) ⌝ }
+{
+    let own = setup.own;
+    let opp = setup.opp;
+    let first = setup.first;
+    let stones = own.union(opp);
+    if let Fault::At { node, cell } = on_set_up(table, board, stones) {
+        let line = line_of(node, first);
+        return Checked::Refused {
+            verdict: Verdict::OnSetUp { line, cell },
+        };
+    }
+    apart_on(table, board, first)
+}
+
+// The checks over every line: 20, 10, 24, 11. Where the first node stands on line 2 there is no stone for 20.
+fn every_line(table: &[u32], board: Board, setup: SetUp) -> Checked
+    requires { ⌜ SomeWhole (now table) board setup ⌝ }
+    ensures { λ r. ⌜ ((s : Sheet) → HoldsWhole (now (table .entry)) board setup s → Says s (fromFree s) r) ⌝ }
+{
+    let first = setup.first;
+    if first == 2 {
+        return apart_on(table, board, first);
+    }
+    free_on(table, board, setup)
 }
 
 // 12: more than 65,536 outcomes, of a sheet whose table has its live moves alone.
@@ -57,80 +138,19 @@ fn few_on(table: &[u32], board: Board, idle: usize) -> FairRead
     }
 }
 
-// 11: a wait that is not elusive; and then, without the moves that aren't live, 12.
-fn elusive_on(table: &mut [u32], board: Board, first: u32) -> FairRead
-    requires holds { ⌜ SomeSheet (now table) board ⌝ }
-    requires low { ⌜ first ≤ mostBytes + 2 ⌝ }
-    ensures { λ r. ⌜ ((s : Sheet) → HoldsSheet (now (table .entry)) board s → first ≡ s .root .line → Tells (now (table .exit)) board s (fromElusive s) r) ⌝ }
-{
-    if let Fault::At { node, cell } = not_elusive(table, board) {
-        let line = line_of(node, first);
-        return FairRead::Refused {
-            verdict: Verdict::NotElusive { line, cell },
-        };
-    }
-    let idle = keep_live(table, board);
-    few_on(table, board, idle)
-}
-
-// 24: a wait that has a branch twice; and then 11, 12.
-fn single_on(table: &mut [u32], board: Board, first: u32) -> FairRead
-    requires holds { ⌜ SomeSheet (now table) board ⌝ }
-    requires low { ⌜ first ≤ mostBytes + 2 ⌝ }
-    ensures { λ r. ⌜ ((s : Sheet) → HoldsSheet (now (table .entry)) board s → first ≡ s .root .line → Tells (now (table .exit)) board s (fromTwice s) r) ⌝ }
-{
-    if let Fault::At { node, .. } = branch_twice(table) {
-        let line = line_of(node, first);
-        return FairRead::Refused {
-            verdict: Verdict::SameBranch { line },
-        };
-    }
-    elusive_on(table, board, first)
-}
-
-// 10: a move that is not apart; and then 24, 11, 12.
-fn apart_on(table: &mut [u32], board: Board, first: u32) -> FairRead
-    requires holds { ⌜ SomeSheet (now table) board ⌝ }
-    requires low { ⌜ first ≤ mostBytes + 2 ⌝ }
-    ensures { λ r. ⌜ ((s : Sheet) → HoldsSheet (now (table .entry)) board s → first ≡ s .root .line → Tells (now (table .exit)) board s (fromApart s) r) ⌝ }
-{
-    if let Fault::At { node, cell } = not_apart(table, board) {
-        let line = line_of(node, first);
-        return FairRead::Refused {
-            verdict: Verdict::NotApart { line, cell },
-        };
-    }
-    single_on(table, board, first)
-}
-
-// 20: a move on a set-up stone; and then 10, 24, 11, 12.
-fn free_on(table: &mut [u32], board: Board, setup: SetUp) -> FairRead
-    requires { ⌜ SomeWhole (now table) board setup ⌝ }
-    ensures { λ r. ⌜ ((s : Sheet) → HoldsWhole (now (table .entry)) board setup s → Tells (now (table .exit)) board s (fair s) r) ⌝ }
-{
-    let own = setup.own;
-    let opp = setup.opp;
-    let first = setup.first;
-    let stones = own.union(opp);
-    if let Fault::At { node, cell } = on_set_up(table, board, stones) {
-        let line = line_of(node, first);
-        return FairRead::Refused {
-            verdict: Verdict::OnSetUp { line, cell },
-        };
-    }
-    apart_on(table, board, first)
-}
-
-// Whether the sheet in the table is fair: 20, 10, 24, 11, 12. Where the first node stands on line 2 there is no stone for 20.
+// Whether the sheet in the table is fair: 20, 10, 24, 11, and then, without the moves that aren't live, 12.
 pub fn fair_sheet(table: &mut [u32], board: Board, setup: SetUp) -> FairRead
     requires { ⌜ SomeWhole (now table) board setup ⌝ }
     ensures { λ r. ⌜ ((s : Sheet) → HoldsWhole (now (table .entry)) board setup s → Tells (now (table .exit)) board s (fair s) r) ⌝ }
 {
-    let first = setup.first;
-    if first == 2 {
-        return apart_on(table, board, first);
+    let checked = every_line(table, board, setup);
+    match checked {
+        Checked::Refused { verdict } => FairRead::Refused { verdict },
+        Checked::Passed => {
+            let idle = keep_live(table, board);
+            few_on(table, board, idle)
+        }
     }
-    free_on(table, board, setup)
 }
 
 // How many moves the sheet in the table has.

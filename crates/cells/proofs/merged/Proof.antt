@@ -1,21 +1,21 @@
 -- `cells::merged` meets its contract: after i turns the rows below i are merged.
 use borrow.Author.Needs.{needs}
 use mathlib.Core.Path.{_≡_}
+use mathlib.Core.Bool.{Bool}
 use mathlib.Core.List.{List}
 use Prim.Native.Nat.{ℕ, _≤_, _-_}
 use native.Mathlib.Omega.{arith}
 use lib.ListN.{getD}
 use Rattle.cells.specs.Rows.{fill, mergedRow}
-use Rattle.cells.specs.declared.Way.{Way}
 use Rattle.cells.proofs.Fill.{done, fill-none, fill-own}
 use Rattle.cells.proofs.merged.Statement.{statement}
 use Rattle.cells.proofs.merged.Tie as tie
 
 abbrev Inv-loop : tie.InvT-loop
-Inv-loop way b out₀ i₀ out i = (i ≤ 21) × (out .rows ≡ fill (λ k. mergedRow way (getD (out₀ .rows) k 0) (getD (b .rows) k 0)) i (out₀ .rows))
+Inv-loop either b out₀ i₀ out i = (i ≤ 21) × (out .rows ≡ fill (λ k. mergedRow either (getD (out₀ .rows) k 0) (getD (b .rows) k 0)) i (out₀ .rows))
 
 abbrev μ-loop : tie.MeasureT-loop
-μ-loop way b out₀ i₀ out i = 21 - i
+μ-loop either b out₀ i₀ out i = 21 - i
 
 loop-holds : tie.Need-loop-holds Inv-loop μ-loop
 loop-holds c = (omega arith, fill-none _ _)
@@ -52,7 +52,7 @@ loop-again c =
     let l = c .before .before .before .before .loop in
     let p = c .before .before .before .before .before .args in
     let t : List ℕ = p .t2 .rows in
-    let e : Way = p .way in
+    let e : Bool = p .either in
     (omega arith, rw (c .merged-row .ensures) (fill-own (λ k x. mergedRow e x (getD t k 0)) (l .i) (p .a .rows) _ (l .inv .1)))
 
 returns : tie.Need-returns Inv-loop μ-loop

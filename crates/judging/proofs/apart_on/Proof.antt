@@ -5,18 +5,15 @@ use Rattle.judging.proofs.apart_on.Statement.{statement}
 use Rattle.judging.proofs.apart_on.Tie as tie
 
 not-apart-requires : tie.Need-not-apart-requires
-not-apart-requires c κs = c .before .before .pre .0
+not-apart-requires c κs = search needs
 
 enum-known-node : tie.Need-enum-known-node
 enum-known-node c = search needs
 
 line-of-requires : tie.Need-line-of-requires
 line-of-requires c κs =
-    let pre = c .before .before .before .before .before .before .pre in
+    let pre = c .before .before .before .before .before .pre in
     (fault-low (c .before .before .before .not-apart .ensures (pre .0 .sheet) (pre .0 .held)) (c .before .node .given .1), pre .1)
-
-same-length : tie.Need-same-length
-same-length c = search needs
 
 returns : tie.Need-returns
 returns c = λ s h on. not-apart-told h _ on _ (c .before .before .before .before .not-apart .ensures s h) _ _ _ (c .before .before .node .given .1) (c .line-of .ensures)
@@ -25,16 +22,10 @@ enum-told : tie.Need-enum-told
 enum-told c = search needs
 
 single-on-requires : tie.Need-single-on-requires
-single-on-requires c κs = let pre = c .before .before .before .before .before .before .pre in (pre .0, pre .1)
-
-same-length-2 : tie.Need-same-length-2
-same-length-2 c = search needs
+single-on-requires c κs = search needs
 
 returns-2 : tie.Need-returns-2
-returns-2 c = λ s h on.
-    let call = c .before .before in
-    let told = call .before .before in
-    apart-told h _ on _ (told .before .before .not-apart .ensures s h) (told .enum-told .given .1) _ (call .single-on .result) (call .single-on .ensures s h on)
+returns-2 c = λ s h on. apart-told h _ on _ (c .before .before .before .not-apart .ensures s h) (c .before .enum-told .given .1) (c .single-on .result) (c .single-on .ensures s h on)
 
 pub apart-on-spec : {M : Type 1} → statement M
-apart-on-spec = tie.close (tie.spec not-apart-requires enum-known-node line-of-requires same-length returns enum-told single-on-requires same-length-2 returns-2)
+apart-on-spec = tie.close (tie.spec not-apart-requires enum-known-node line-of-requires returns enum-told single-on-requires returns-2)

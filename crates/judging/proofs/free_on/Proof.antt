@@ -9,7 +9,7 @@ union-requires c κs = search needs
 
 on-set-up-requires : tie.Need-on-set-up-requires
 on-set-up-requires c κs =
-    let pre = c .before .before .before .before .before .pre in
+    let pre = c .before .before .before .before .pre in
     record { sheet = pre .sheet; held = pre .whole .tree }
 
 enum-known-node : tie.Need-enum-known-node
@@ -18,17 +18,14 @@ enum-known-node c = search needs
 line-of-requires : tie.Need-line-of-requires
 line-of-requires c κs =
     let found = c .before .before .before in
-    let pre = found .before .before .before .before .before .before .pre in
-    let stones = all-stones (pre .whole .set-up) _ (found .before .before .union .ensures _) in
+    let pre = found .before .before .before .before .before .pre in
+    let stones = all-stones (pre .whole .set-up) _ (found .before .union .ensures _) in
     (fault-low (found .on-set-up .ensures (pre .sheet) (pre .whole .tree) stones) (c .before .node .given .1), pre .whole .set-up .low)
-
-same-length : tie.Need-same-length
-same-length c = search needs
 
 returns : tie.Need-returns
 returns c = λ s h.
     let found = c .before .before .before .before in
-    let stones = all-stones (h .set-up) _ (found .before .before .union .ensures _) in
+    let stones = all-stones (h .set-up) _ (found .before .union .ensures _) in
     not-free-told (h .tree) _ (h .set-up .first-is) _ (found .on-set-up .ensures s (h .tree) stones) _ _ _ (c .before .before .node .given .1) (c .line-of .ensures)
 
 enum-told : tie.Need-enum-told
@@ -36,20 +33,15 @@ enum-told c = search needs
 
 apart-on-requires : tie.Need-apart-on-requires
 apart-on-requires c κs =
-    let pre = c .before .before .before .before .before .before .before .before .before .pre in
+    let pre = c .before .before .before .before .before .before .before .pre in
     (record { sheet = pre .sheet; held = pre .whole .tree }, pre .whole .set-up .low)
-
-same-length-2 : tie.Need-same-length-2
-same-length-2 c = search needs
 
 returns-2 : tie.Need-returns-2
 returns-2 c = λ s h.
-    let call = c .before .before in
-    let told = call .before .before in
-    let found = told .before .before in
-    let stones = all-stones (h .set-up) _ (found .before .before .union .ensures _) in
-    free-told (h .tree) _ (h .set-up .first-is) _ (found .on-set-up .ensures s (h .tree) stones) (told .enum-told .given .1) _ (call .apart-on .result)
-    (call .apart-on .ensures s (h .tree) (h .set-up .first-is))
+    let found = c .before .before .before in
+    let stones = all-stones (h .set-up) _ (found .before .union .ensures _) in
+    free-told (h .tree) _ (h .set-up .first-is) _ (found .on-set-up .ensures s (h .tree) stones) (c .before .enum-told .given .1) (c .apart-on .result)
+    (c .apart-on .ensures s (h .tree) (h .set-up .first-is))
 
 pub free-on-spec : {M : Type 1} → statement M
-free-on-spec = tie.close (tie.spec union-requires on-set-up-requires enum-known-node line-of-requires same-length returns enum-told apart-on-requires same-length-2 returns-2)
+free-on-spec = tie.close (tie.spec union-requires on-set-up-requires enum-known-node line-of-requires returns enum-told apart-on-requires returns-2)
