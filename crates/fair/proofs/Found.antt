@@ -12,8 +12,8 @@ use Rattle.rules.specs.Tree.{Waits, noWaits, wait, Moves, noMoves, move, Move}
 use Rattle.rules.specs.Fair.{inWaits, inMoves, inMove, holding, inEvery, notApart, notElusive}
 use Rattle.cells.specs.Cells.{held}
 use Rattle.nodes.specs.Nodes.{Nodes, noNodes, node, Kind, aWait, aMove, nodesOfWaits, nodesOfMoves, inNode}
-use Rattle.nodes.specs.Table.{underIn, RowOn, At, SomeNode}
-use Rattle.nodes.specs.Collecting.{CollectsAny}
+use Rattle.nodes.specs.Table.{underIn, endIn, RowOn, WeighedOn, At, SomeNode}
+use Rattle.nodes.specs.Collecting.{CollectsAny, CellsAny}
 use Rattle.nodes.proofs.Trees.{waits-cells, moves-cells}
 use Rattle.nodes.proofs.Walk.{Walking, walking-starts, walking-child, walking-again, walking-ends}
 use Rattle.fair.specs.Faults.{MoveAt, FoundAtMove, FoundAtWait, OneMoreSet}
@@ -72,7 +72,7 @@ crowded-all false false = refl
 
 -- the cells of one node, collected alone
 module _ {k : Kind} {b : Board} {t : List ℕ} {i : ℕ} {none rows : List ℕ} {next : ℕ} (h : CollectsAny k b t i none rows next) (e : (x : ℕ) → held b none x ≡ false) where
-  pub alone-held : (c : ℕ) (u : Nodes) → At (RowOn b t) k i c u → (x : ℕ) → 1 ≤ x → held b rows x ≡ inNode k c u x
+  alone-held : (c : ℕ) (u : Nodes) → At (RowOn b t) k i c u → (x : ℕ) → 1 ≤ x → held b rows x ≡ inNode k c u x
   alone-held c u n x p = h c u n .held-are x p ∙ ap (λ (y : Bool). y || inNode k c u x) (e x)
 
 -- ---- at a move
@@ -127,45 +127,44 @@ pub record Met (b : Board) (rows : List ℕ) (all rest : Nodes) : Type 0 where
   pub whole : (x : ℕ) → 1 ≤ x → (held b rows x && everyIn aMove rest x) ≡ everyIn aMove all x
 
 abbrev pub Meeting : Board → List ℕ → List ℕ → (i under next j : ℕ) → Type 0
-Meeting b t rows i under next j = Walking (RowOn b t) (RowOn b t) aWait i under next j (Met b rows)
+Meeting b t rows i under next j = Walking (WeighedOn b t) (WeighedOn b t) aWait i under next j (Met b rows)
 
 -- before the first move
 pub record Whole (all rest : Nodes) : Type 0 where
   pub same : (x : ℕ) → everyIn aMove rest x ≡ everyIn aMove all x
 
-module _ (b : Board) (t : List ℕ) (i under : ℕ) (e : under ≡ underIn t i) (p : 0 < under) (n : SomeNode (RowOn b t) aWait i) where
-  unmet : Walking (RowOn b t) (RowOn b t) aWait i under (i + 1) 0 Whole
-  unmet = walking-starts (λ c u r. omega (arith, r .row .under)) (λ u. record { same = λ x. refl })
+module _ (b : Board) (t : List ℕ) (i under : ℕ) (e : under ≡ underIn t i) (p : 0 < under) (n : SomeNode (WeighedOn b t) aWait i) where
+  unmet : Walking (WeighedOn b t) (WeighedOn b t) aWait i under (i + 1) 0 Whole
+  unmet = walking-starts (λ c u r. omega (arith, r .weight .row .under)) (λ u. record { same = λ x. refl })
 
-  pub first-move-stands : SomeNode (RowOn b t) aMove (i + 1)
+  pub first-move-stands : SomeNode (WeighedOn b t) aMove (i + 1)
   first-move-stands = walking-child unmet p n
 
   -- the cells of the first move
-  pub meeting-starts : {none rows : List ℕ} {next : ℕ} → CollectsAny aMove b t (i + 1) none rows next → ((x : ℕ) → held b none x ≡ false)
-      → Meeting b t rows i under next 1
+  pub meeting-starts : (rows : List ℕ) {next : ℕ} → CellsAny b t (i + 1) rows → next ≡ endIn t (i + 1) → Meeting b t rows i under next 1
   unfolding everyIn
-  meeting-starts h z =
+  meeting-starts rows h z =
       walking-again unmet p n (λ c v m.
       record {
-        next-is = h c v m .next-is;
+        next-is = z ∙ m .here .weight .end;
         each = λ a st. st;
-        holds = λ u a f. record { whole = λ x q. ap (λ (y : Bool). y && everyIn aMove a x) (alone-held h z c v m x q) ∙ f .same x };
+        holds = λ u a f. record { whole = λ x q. ap (λ (y : Bool). y && everyIn aMove a x) (h aMove c v m x q) ∙ f .same x };
       })
 
 module _ {b : Board} {t : List ℕ} {rows : List ℕ} {i under next j : ℕ} (w : Meeting b t rows i under next j) where
   -- met with the cells of one more move
-  pub meeting-again : j < under → SomeNode (RowOn b t) aWait i → {none more rows′ : List ℕ} {to : ℕ}
-      → CollectsAny aMove b t next none more to → ((x : ℕ) → held b none x ≡ false) → ((x : ℕ) → held b rows′ x ≡ (held b rows x && held b more x))
+  pub meeting-again : j < under → SomeNode (WeighedOn b t) aWait i → (more rows′ : List ℕ) {to : ℕ}
+      → CellsAny b t next more → to ≡ endIn t next → ((x : ℕ) → held b rows′ x ≡ (held b rows x && held b more x))
       → Meeting b t rows′ i under to (j + 1)
   unfolding everyIn
-  meeting-again p n {none} {more} {rows′} h z d =
+  meeting-again p n more rows′ h z d =
       walking-again w p n (λ c v m.
       record {
-        next-is = h c v m .next-is;
+        next-is = z ∙ m .here .weight .end;
         each = λ a st. st;
         holds = λ u a f. record {
           whole = λ x q.
-              ap (λ (y : Bool). y && everyIn aMove a x) (d x ∙ ap (λ (y : Bool). held b rows x && y) (alone-held h z c v m x q))
+              ap (λ (y : Bool). y && everyIn aMove a x) (d x ∙ ap (λ (y : Bool). held b rows x && y) (h aMove c v m x q))
               ∙ and-assoc (held b rows x) (inNode aMove c v x) (everyIn aMove a x)
               ∙ f .whole x q;
         };

@@ -55,15 +55,15 @@ module _ {b : Board} {t : List ℕ} {i : ℕ} where
   pub of-wait : isMoveAt t i ≡ false → (Q : TreeNode → Type 0) → ((w : Wait) → WaitAt b t i w → w .moves ≢ noMoves → Q (isWait w))
       → (n : TreeNode) → NodeAt b t i n → Q n
   of-wait e Q f _ (moveAt {m} a g) = absurd (false≢true (sym e ∙ move-is m a g))
-  of-wait e Q f _ (waitAt {w} a p g) = f w (at-map on-row a) g
+  of-wait e Q f _ (waitAt {w} a p g) = f w a g
 
   pub some-move : isMoveAt t i ≡ true → SomeTreeNode b t i → SomeNode (RowOn b t) aMove i
   some-move e n = of-move e (λ _. SomeNode (RowOn b t) aMove i) (λ m a. record { cell = m .cell; under = nodesOfWaits (m .waits); at = a }) (n .node) (n .at)
 
-  pub some-wait : isMoveAt t i ≡ false → SomeTreeNode b t i → SomeNode (RowOn b t) aWait i × (1 ≤ underIn t i)
+  pub some-wait : isMoveAt t i ≡ false → SomeTreeNode b t i → SomeNode (WeighedOn b t) aWait i × (1 ≤ underIn t i)
   some-wait e n =
-      of-wait e (λ _. SomeNode (RowOn b t) aWait i × (1 ≤ underIn t i))
-      (λ w a g. (record { cell = 0; under = nodesOfMoves (w .moves); at = a }, omega (arith, a .here .row .under, some-many (w .moves) g)))
+      of-wait e (λ _. SomeNode (WeighedOn b t) aWait i × (1 ≤ underIn t i))
+      (λ w a g. (record { cell = 0; under = nodesOfMoves (w .moves); at = a }, omega (arith, a .here .weight .row .under, some-many (w .moves) g)))
       (n .node) (n .at)
     where
       some-many : (ms : Moves) → ms ≢ noMoves → 1 ≤ many (nodesOfMoves ms)

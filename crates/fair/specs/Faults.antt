@@ -70,7 +70,7 @@ abbrev pub MoveAt : Board → List ℕ → ℕ → Move → Type 0
 MoveAt b t i m = At (RowOn b t) aMove i (m .cell) (nodesOfWaits (m .waits))
 
 abbrev pub WaitAt : Board → List ℕ → ℕ → Wait → Type 0
-WaitAt b t i w = At (RowOn b t) aWait i 0 (nodesOfMoves (w .moves))
+WaitAt b t i w = At (WeighedOn b t) aWait i 0 (nodesOfMoves (w .moves))
 
 -- a node of a sheet's tree stands weighed at node i: only the root may have no cell, and it is a move; a wait has a move under it
 pub data NodeAt (b : Board) (t : List ℕ) (i : ℕ) : TreeNode → Type 0 where

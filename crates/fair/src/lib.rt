@@ -9,14 +9,14 @@ ghost use Rattle.rules.specs.Tree.{Wait, Sheet, setUpCells};
 ghost use Rattle.rules.specs.declared.Board as declared;
 ghost use Rattle.cells.specs.Cells.{Holds, Fits};
 ghost use Rattle.nodes.specs.Nodes.{aWait, aMove};
-ghost use Rattle.nodes.specs.Table.{underIn, RowOn, SomeNode};
+ghost use Rattle.nodes.specs.Table.{underIn, RowOn, WeighedOn, SomeNode};
 ghost use Rattle.nodes.specs.Order.{TreeNode};
 ghost use Rattle.nodes.specs.Sheets.{HoldsSheet, SomeSheet};
 ghost use Rattle.fair.specs.Faults.{FaultFound, firstBy, faultyBy, NodeAt, SomeTreeNode, FoundAtMove, FoundAtWait, LeastAt, OneMoreSet};
 ghost use Rattle.fair.specs.Twice.{sameRow, rowsIn, branchIn, Spans, ForkAt, SomeFork, MovesFrom, twiceBy};
 use cells::Cells;
 use nodes::cell_at;
-use nodes::collect_move;
+use nodes::cells_at;
 use nodes::collect_wait;
 use nodes::end_at;
 use nodes::is_move;
@@ -84,19 +84,18 @@ fn not_apart_at(table: &[u32], board: Board, i: usize) -> Cells
 // The faulty cells of the wait at node i: those found in every one of its moves.
 fn not_elusive_at(table: &[u32], board: Board, i: usize) -> Cells
     requires fits { ⌜ Fits board ⌝ }
-    requires stands { ⌜ SomeNode (RowOn board (now table)) aWait i ⌝ }
+    requires stands { ⌜ SomeNode (WeighedOn board (now table)) aWait i ⌝ }
     requires some { ⌜ 1 ≤ underIn (now table) i ⌝ }
     ensures { λ r. ⌜ FoundAtWait notElusive board (now (table .entry)) i (r .rows) ⌝ }
 {
     let under = under_at(table, i);
-    let first = collect_move(table, board, i + 1, Cells::empty());
-    let mut cells = first.cells;
-    let mut next = first.next;
+    let mut cells = cells_at(table, board, i + 1);
+    let mut next = end_at(table, i + 1);
     let mut j = 1;
     while j < under {
-        let m = collect_move(table, board, next, Cells::empty());
-        cells = cells.meet(m.cells);
-        next = m.next;
+        let own = cells_at(table, board, next);
+        cells = cells.meet(own);
+        next = end_at(table, next);
         j += 1;
     }
     cells

@@ -13,13 +13,10 @@ use Rattle.rules.specs.Tree.{Waits}
 use Rattle.rules.specs.Fair.{inWaits, inMove}
 use Rattle.rules.specs.Live.{Shared, andThis}
 use Rattle.rules.proofs.Tests.{cases}
-use Rattle.cells.specs.Cells.{held}
 use Rattle.nodes.specs.Nodes.{Nodes, Kind, aWait, aMove, other, nodesOfWaits, named, inNodes}
-use Rattle.nodes.specs.Table.{endIn, Celled, WeighedOn, Each, nothing, first, At, SomeNode, RowOn}
-use Rattle.nodes.specs.Collecting.{CollectsAny}
-use Rattle.nodes.proofs.Table.{at-map, on-row}
+use Rattle.nodes.specs.Table.{endIn, Celled, WeighedOn, Each, nothing, first, At}
+use Rattle.nodes.specs.Collecting.{CellsAny}
 use Rattle.nodes.proofs.Trees.{waits-cells}
-use Rattle.fair.proofs.Found.{alone-held}
 use Rattle.live.specs.Looking.{CellsAre, CommonIs, LivesAny, NarrowedAny, Told, LookedAny}
 use Rattle.live.specs.declared.Common.{Common}
 use Rattle.live.specs.declared.Looked.{Looked}
@@ -39,29 +36,25 @@ no-zero {k = k} {i = i} p (first {c = c} {u = u} {a = a} r below rest) h =
     own aMove g q = omega (arith, g p, eqb→eq 0 c q)
     own aWait g q = q
 
-pub some-row : {b : Board} {t : List ℕ} {k : Kind} {i : ℕ} → SomeNode (WeighedOn b t) k i → SomeNode (RowOn b t) k i
-some-row n = record { cell = n .cell; under = n .under; at = at-map on-row (n .at) }
-
 module _ {b : Board} {t : List ℕ} {i : ℕ} where
-  -- the cells that were collected are the move's
-  collected : {set rows : List ℕ} {next : ℕ} → 1 ≤ i → CollectsAny aMove b t i set rows next → ((x : ℕ) → held b set x ≡ false)
-      → (c : ℕ) (ws : Waits) → At (WeighedOn b t) aMove i c (nodesOfWaits ws) → CellsAre b rows c ws
+  -- the cells that stand in the move's rows are its own and those under it
+  move-cells : {rows : List ℕ} → 1 ≤ i → CellsAny b t i rows → (c : ℕ) (ws : Waits) → At (WeighedOn b t) aMove i c (nodesOfWaits ws) → CellsAre b rows c ws
   unfolding inMove
-  collected p h e c ws a =
+  move-cells p h c ws a =
       record {
-        same = λ x q. alone-held h e c (nodesOfWaits ws) (at-map on-row a) x q ∙ ap (λ y. eqb x c || y) (waits-cells ws x);
+        same = λ x q. h aMove c (nodesOfWaits ws) a x q ∙ ap (λ y. eqb x c || y) (waits-cells ws x);
         no-zero = λ m.
             ⊎-elim (λ q. omega (arith, a .here .celled p, eqb→eq 0 c q)) (λ q. no-zero (omega arith) (a .below) (subst⁻¹ T (waits-cells ws 0) q))
             (cases (eqb 0 c) (inWaits ws 0) m);
       }
 
-  pub looked-at : (z : Common) {set own : List ℕ} (r : Looked) → 1 ≤ i → CollectsAny aMove b t i set own (r .next) → ((x : ℕ) → held b set x ≡ false)
+  pub looked-at : (z : Common) {own : List ℕ} (r : Looked) → 1 ≤ i → r .next ≡ endIn t i → CellsAny b t i own
       → LivesAny b z own (r .live) → NarrowedAny b z own (r .common) → LookedAny b t i z r
-  looked-at z r p h e l n =
+  looked-at z r p e h l n =
       record {
-        next-is = λ c u a. h c u (at-map on-row a) .next-is;
+        next-is = λ c u a. e ∙ a .here .weight .end;
         tells = λ before c ws k a.
-            let own = collected p h e c ws a in
+            let own = move-cells p h c ws a in
             record { live-is = l before c ws k own; common-is = n before c ws k own };
       }
 

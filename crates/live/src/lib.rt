@@ -17,7 +17,7 @@ ghost use Rattle.live.specs.Looking.{NoneBefore, LivesAny, NarrowedAny, 
 ghost use Rattle.live.specs.Thinning.{MoveThinnedAny, WaitThinnedAny, KeepsLive};
 use cells::Cells;
 use nodes::cell_at;
-use nodes::collect_move;
+use nodes::cells_at;
 use nodes::end_at;
 use nodes::is_move;
 use nodes::set_node;
@@ -81,27 +81,26 @@ struct Looked {
     common: Common,
 }
 
-// Looks at the move at node i. Where no cell is common any more no further move is live, and its cells are not collected.
+// Looks at the move at node i. Where no cell is common any more no further move is live, and its cells are not asked for.
 fn look(t: &[u32], board: Board, i: usize, common: Common) -> Looked
     requires fits { ⌜ Fits board ⌝ }
     requires stands { ⌜ SomeNode (WeighedOn board (now t)) aMove i ⌝ }
     requires below { ⌜ 1 ≤ i ⌝ }
     ensures { λ r. ⌜ LookedAny board (now (t .entry)) i common r ⌝ }
 {
+    let next = end_at(t, i);
     if common.spent {
-        let next = end_at(t, i);
         return Looked {
             live: false,
             next,
             common,
         };
     }
-    let m = collect_move(t, board, i, Cells::empty());
-    let own = m.cells;
+    let own = cells_at(t, board, i);
     let live = common.lives(board, own);
     Looked {
         live,
-        next: m.next,
+        next,
         common: common.narrowed(board, own),
     }
 }

@@ -5,6 +5,7 @@ pub mod Table
 pub mod Walk
 pub mod Weighing
 pub mod Collecting
+pub mod RowCells
 pub mod Order
 pub mod Beside
 pub mod Sheets

@@ -72,7 +72,7 @@ mutual
   waits-on-board b noWaits f s = nothing
   waits-on-board b (wait line ms ws) f (first r below rest) =
       first
-      (record { row = r; on = omega arith; celled = tt })
+      (record { row = r; on = omega arith; celled = refl })
       (moves-on-board b ms (λ m h. f m (in-first (movesOfWaits ws) h)) below)
       (waits-on-board b ws (λ m h. f m (in-second (movesOfMoves ms) h)) rest)
 

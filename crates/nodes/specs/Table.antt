@@ -54,10 +54,10 @@ pub record WeighedRow (t : List ℕ) (k : Kind) (i c : ℕ) (u : Nodes) : Type 0
   pub end : endIn t i ≡ i + 1 + size u
   pub count : countIn t i ≡ limited (countOf (other k) u)
 
--- only the first node may be a move without a cell
+-- a wait has the cell 0, and of the moves only the first node may have it
 abbrev pub Celled : Kind → (i c : ℕ) → Type 0
 Celled aMove i c = 1 ≤ i → 1 ≤ c
-Celled aWait i c = Unit {0}
+Celled aWait i c = c ≡ 0
 
 -- besides the first two, its cell is one of the board, or 0
 pub record RowOn (b : Board) (t : List ℕ) (k : Kind) (i c : ℕ) (u : Nodes) : Type 0 where

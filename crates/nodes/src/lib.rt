@@ -1,5 +1,6 @@
 // nodes: the node table in a lent slice of 32-bit numbers. It holds the table's accessors and stores, and the functions for moves
-// and for waits that call each other over it, to count outcomes and to collect cells. It sees rules and cells.
+// and for waits that call each other over it, to count outcomes and to collect cells; and the cells of a node's rows. It sees rules and
+// cells.
 ghost use mathlib.Core.Path.{_≡_};
 ghost use mathlib.Core.Bool.{_||_};
 ghost use Prim.Native.Nat.{ℕ, _+_, _*_, _<_, _≤_};
@@ -9,10 +10,10 @@ ghost use Rattle.rules.specs.Sizes.{leastWorkspace};
 ghost use Rattle.rules.specs.Tree.{stone};
 ghost use Rattle.rules.specs.Words.{among};
 ghost use Rattle.cells.specs.Cells.{held, Fits};
-ghost use Rattle.nodes.specs.Nodes.{aWait, aMove, limited};
-ghost use Rattle.nodes.specs.Table.{cellIn, underIn, endIn, countIn, isMoveAt, withNode, withWeight, Row, RowOn, SomeNode};
+ghost use Rattle.nodes.specs.Nodes.{Kind, aWait, aMove, limited};
+ghost use Rattle.nodes.specs.Table.{cellIn, underIn, endIn, countIn, isMoveAt, withNode, withWeight, Row, RowOn, WeighedOn, SomeNode};
 ghost use Rattle.nodes.specs.Weighing.{WeighsAny};
-ghost use Rattle.nodes.specs.Collecting.{CollectsAny};
+ghost use Rattle.nodes.specs.Collecting.{CollectsAny, CellsAny};
 use cells::Cells;
 use rules::Board;
 
@@ -206,4 +207,21 @@ pub fn collect_wait(t: &[u32], board: Board, i: usize, set: Cells) -> Collected
         j += 1;
     }
     Collected { cells, next }
+}
+
+// The cells of node i, its own and those under it, which stand in its rows one after another.
+pub fn cells_at(t: &[u32], board: Board, i: usize) -> Cells
+    requires fits { ⌜ Fits board ⌝ }
+    requires stands { ⌜ ((k : Kind) × SomeNode (WeighedOn board (now t)) k i) ⌝ }
+    ensures { λ r. ⌜ CellsAny board (now (t .entry)) i (r .rows) ⌝ }
+{
+    let end = end_at(t, i);
+    let mut cells = Cells::empty();
+    let mut j = i;
+    while j < end {
+        let cell = cell_at(t, j);
+        cells = with_stone(cells, board, cell);
+        j += 1;
+    }
+    cells
 }
