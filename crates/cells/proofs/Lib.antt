@@ -5,6 +5,7 @@ pub mod Digits
 pub mod Fill
 pub mod Grown
 pub mod Held
+pub mod InRows
 pub mod Neighbours
 pub mod Places
 pub mod Reached

@@ -2,11 +2,11 @@
 use mathlib.Core.Bool.{Bool, _&&_}
 use mathlib.Core.List.{List, _++_}
 use mathlib.Core.Path.{_≡_}
-use Prim.Native.Nat.{ℕ, _/_, _%_, _^_, _≤_}
-use lib.Dec.{eqb}
+use Prim.Native.Nat.{ℕ, _+_, _*_, _/_, _%_, _^_, _<_, _≤_}
+use lib.Dec.{T, eqb}
 use lib.ListN.{length, getD, drop}
 use Rattle.rules.specs.Words.{among}
-use Rattle.rules.specs.Board.{isCell, columnOf, rowOf}
+use Rattle.rules.specs.Board.{cells, isCell, columnOf, rowOf}
 use Rattle.rules.specs.declared.Board.{Board}
 
 -- the binary digit k of n
@@ -32,3 +32,19 @@ pub record Fits (b : Board) : Type 0 where
 pub record Listed (cells room room′ : List ℕ) (n : ℕ) : Type 0 where
   pub number : n ≡ length cells
   pub written : room′ ≡ cells ++ drop (length cells) room
+
+-- x is the first of the four numbers of a row from row i up to row j
+pub record StandsIn (t : List ℕ) (i j x : ℕ) : Type 0 where
+  pub at : ℕ
+  pub from : i ≤ at
+  pub to : at < j
+  pub is : getD t (4 * at) 0 ≡ x
+
+-- these rows are in the list, and the first number of each is a cell of the board or 0
+abbrev pub RowsHold : Board → List ℕ → (i j : ℕ) → Type 0
+RowsHold b t i j = (k : ℕ) → i ≤ k → k < j → (4 * k + 3 < length t) × (getD t (4 * k) 0 ≤ cells b)
+
+-- the set is that of the cells in these rows
+pub record HeldInRows (b : Board) (t : List ℕ) (i j : ℕ) (rows : List ℕ) : Type 0 where
+  pub stands : (x : ℕ) → 1 ≤ x → T (held b rows x) → StandsIn t i j x
+  pub is-held : (x : ℕ) → 1 ≤ x → StandsIn t i j x → T (held b rows x)

@@ -10,7 +10,7 @@ ghost use lib.ListN.{length, replicate};
 ghost use Rattle.rules.specs.Board.{isCell, onFirstSide, onLastSide, listed, smallest};
 ghost use Rattle.rules.specs.Joining.{joined};
 ghost use Rattle.rules.specs.declared.Board as declared;
-ghost use Rattle.cells.specs.Cells.{held, Fits, Listed};
+ghost use Rattle.cells.specs.Cells.{held, Fits, Listed, RowsHold, HeldInRows};
 ghost use Rattle.cells.specs.Rows.{mergedRow, mergedRows, beyondRow, PlaceOf, Block, Clipped, Side};
 ghost use Rattle.cells.specs.Growing.{grownRow, Framed, Closure};
 use rules::Board;
@@ -191,6 +191,27 @@ impl Cells {
         let row = at.row;
         self.rows[row] = self.rows[row] | (1u32 << at.column);
         self
+    }
+
+    // The cells that stand in the rows of a table, four numbers a row and the cell first, from one row up to another; 0 is no cell.
+    pub fn of_rows(t: &[u32], board: Board, from: usize, end: usize) -> Self
+        requires fits { ⌜ Fits board ⌝ }
+        requires rows { ⌜ RowsHold board (now t) from end ⌝ }
+        requires up { ⌜ from ≤ end ⌝ }
+        ensures { λ r. ⌜ HeldInRows board (now (t .entry)) from end (r .rows) ⌝ }
+    {
+        let mut out = Cells::empty();
+        let mut j = from;
+        while j < end {
+            let cell = t[4 * j] as usize;
+            if cell != 0 {
+                let at = placed(board, cell);
+                let row = at.row;
+                out.rows[row] = out.rows[row] | (1u32 << at.column);
+            }
+            j += 1;
+        }
+        out
     }
 
     // The cells of one set or the other.

@@ -6,15 +6,14 @@ use mathlib.Core.Option.{none}
 use Prim.Native.Nat.{ℕ, suc, _+_, _<_, _≤_}
 use native.Mathlib.Nat.{add-zero}
 use native.Mathlib.Omega.{arith}
-use lib.Dec.{leb, le→leb}
 use Rattle.rules.specs.declared.Board.{Board}
-use Rattle.rules.specs.Board.{isCell, cells}
+use Rattle.rules.specs.Board.{cells}
 use Rattle.rules.specs.Words.{_∈_, at-head, in-tail, total, oneIf}
 use Rattle.rules.specs.Tree.{Moves, noMoves, move, Wait, Sheet, everyWait}
 use Rattle.rules.specs.Written.{howManyMoves}
 use Rattle.rules.specs.Live.{idleUnder, idleAt, idleCount}
 use Rattle.rules.specs.Plain.{IsElusive, AllElusive}
-use Rattle.rules.proofs.Tests.{both}
+use Rattle.rules.proofs.Places.{range-cell}
 use Rattle.rules.proofs.Living.{one-at-most, FirstOn, two-live}
 use Rattle.nodes.specs.Nodes.{aWait, aMove, nodesOfMoves, many}
 use Rattle.nodes.specs.Table.{underIn, isMoveAt, WeighedOn, Each, SomeNode}
@@ -101,7 +100,7 @@ module _ {b : Board} {t : List ℕ} {i : ℕ} where
       first-on noMoves r = tt
       first-on (move line c ws ms) r =
           let at = move-first line c ws ms r .0 in
-          unfold isCell in both (leb 1 c) (leb c (cells b)) (le→leb 1 c (at .here .celled (omega arith))) (le→leb c (cells b) (at .here .on))
+          unfold cells in range-cell b c (at .here .celled (omega arith)) (at .here .on)
 
   -- another wait is counted
   pub some-fork-on : isMoveAt t i ≡ false → SomeTreeNode b t i → SomeNode (WeighedOn b t) aWait i

@@ -1,4 +1,4 @@
--- The cells of a node stand in its rows: the loop over them.
+-- The cells of a node stand in its rows.
 use mathlib.Core.Path.{_≡_, refl, sym, subst, subst⁻¹, _∙_}
 use mathlib.Core.Logic.{_⊎_, inl, inr, ⊎-elim}
 use mathlib.Core.Bool.{Bool, false, _||_}
@@ -11,23 +11,13 @@ use lib.ListN.{length}
 use borrow.Author.Tests.{eq-eqb}
 use Rattle.rules.specs.declared.Board.{Board}
 use Rattle.rules.specs.Board.{cells}
-use Rattle.rules.specs.Tree.{stone}
-use Rattle.rules.specs.Words.{among}
 use Rattle.rules.proofs.Tests.{holds-of, same-test, left, right, cases}
-use Rattle.cells.specs.Cells.{held}
-use Rattle.nodes.specs.Nodes.{Nodes, Kind, aWait, aMove, other, size, named, inNodes, inNode}
+use Rattle.cells.specs.Cells.{held, StandsIn, RowsHold, HeldInRows}
+use Rattle.nodes.specs.Nodes.{Nodes, alone, Kind, aWait, aMove, other, size, named, inNodes, inNode}
 use Rattle.nodes.specs.Table.{cellIn, endIn, Celled, WeighedOn, Each, nothing, first, At, SomeNode}
 use Rattle.nodes.specs.Collecting.{CellsAny}
-use Rattle.nodes.proofs.Collecting.{stone-of}
 
--- x is the cell of a row from node i up to node j
-pub record HasCell (t : List ℕ) (i j x : ℕ) : Type 0 where
-  pub at : ℕ
-  pub from : i ≤ at
-  pub to : at < j
-  pub is : cellIn t at ≡ x
-
-wider : {t : List ℕ} {i j i′ j′ x : ℕ} → i′ ≤ i → j ≤ j′ → HasCell t i j x → HasCell t i′ j′ x
+wider : {t : List ℕ} {i j i′ j′ x : ℕ} → i′ ≤ i → j ≤ j′ → StandsIn t i j x → StandsIn t i′ j′ x
 wider p q h = record { at = h .at; from = omega (arith, h .from); to = omega (arith, h .to); is = h .is }
 
 -- a place from node i on is node i, or one of those under it, or one after them
@@ -49,7 +39,7 @@ own-cell aWait i c x g p = (λ h. absurd h, λ e. absurd (omega arith))
 
 module _ {b : Board} {t : List ℕ} where
   -- what is found in nodes is the cell of one of their rows, and the other way round
-  nodes-rows : {k : Kind} {i : ℕ} {n : Nodes} → Each (WeighedOn b t) k i n → (x : ℕ) → 1 ≤ x → T (inNodes k n x) → HasCell t i (i + size n) x
+  nodes-rows : {k : Kind} {i : ℕ} {n : Nodes} → Each (WeighedOn b t) k i n → (x : ℕ) → 1 ≤ x → T (inNodes k n x) → StandsIn t i (i + size n) x
   unfolding inNodes size
   nodes-rows nothing x p h = absurd h
   nodes-rows {k = k} {i = i} (first {c = c} {u = u} {a = a} r below rest) x p h =
@@ -62,7 +52,7 @@ module _ {b : Board} {t : List ℕ} where
       (λ o. wider (omega arith) (omega arith) (nodes-rows rest x p o))
       (cases (named k c x || inNodes (other k) u x) (inNodes k a x) h)
 
-  rows-nodes : {k : Kind} {i : ℕ} {n : Nodes} → Each (WeighedOn b t) k i n → (x : ℕ) → 1 ≤ x → HasCell t i (i + size n) x → T (inNodes k n x)
+  rows-nodes : {k : Kind} {i : ℕ} {n : Nodes} → Each (WeighedOn b t) k i n → (x : ℕ) → 1 ≤ x → StandsIn t i (i + size n) x → T (inNodes k n x)
   unfolding inNodes size
   rows-nodes nothing x p h = absurd (omega (arith, h .from, h .to))
   rows-nodes {k = k} {i = i} (first {c = c} {u = u} {a = a} r below rest) x p h =
@@ -85,57 +75,19 @@ module _ {b : Board} {t : List ℕ} where
       (λ l m. row-on below j l m)
       (λ l. row-on rest j l (omega arith))
 
--- ---- the loop
-
--- the cells of the rows so far are in the set
-pub record Gathered (b : Board) (t rows : List ℕ) (i end j : ℕ) : Type 0 where
-  pub on : i ≤ j
-  pub to-end : end ≡ endIn t i
-  pub all : (x : ℕ) → 1 ≤ x → T (held b rows x) → HasCell t i j x
-  pub there : (x : ℕ) → 1 ≤ x → HasCell t i j x → T (held b rows x)
-
-pub gathered-none : (b : Board) (t rows : List ℕ) (i end : ℕ) → end ≡ endIn t i → ((x : ℕ) → held b rows x ≡ false) → Gathered b t rows i end i
-gathered-none b t rows i end e z =
-    record {
-      on = omega arith;
-      to-end = e;
-      all = λ x p h. absurd (subst T (z x) h);
-      there = λ x p h. absurd (omega (arith, h .from, h .to));
-    }
-
-module _ {b : Board} {t rows : List ℕ} {i end j : ℕ} (g : Gathered b t rows i end j) where
-  -- the row at j
-  pub gathered-row : j < end → {k : Kind} → SomeNode (WeighedOn b t) k i → (4 * j + 3 < length t) × (cellIn t j ≤ cells b)
+-- the rows of a node are in the table, and their cells are the node's
+module _ {b : Board} {t : List ℕ} {i : ℕ} where
+  pub node-rows : {k : Kind} {end : ℕ} → SomeNode (WeighedOn b t) k i → end ≡ endIn t i → RowsHold b t i end
   unfolding size
-  gathered-row p n =
+  node-rows n e j p q =
       let h = n .at .here in
-      row-on (first h (n .at .below) nothing) j (g .on) (omega (arith, g .to-end, h .weight .end))
+      row-on (first h (n .at .below) nothing) j p (omega (arith, e, h .weight .end))
 
-  -- with its cell
-  pub gathered-more : j < end → {rows′ : List ℕ} {c : ℕ} → c ≡ cellIn t j → ((x : ℕ) → held b rows′ x ≡ (held b rows x || among (stone c) x)) → Gathered b t rows′ i end (j + 1)
-  gathered-more p {rows′} {c} e h =
-      record {
-        on = omega (arith, g .on);
-        to-end = g .to-end;
-        all = λ x q k.
-            ⊎-elim (λ o. wider (omega arith) (omega arith) (g .all x q o))
-            (λ o. record { at = j; from = g .on; to = omega arith; is = sym e ∙ sym (eqb→eq x c (subst T (stone-of c x q) o)) })
-            (cases (held b rows x) (among (stone c) x) (subst T (h x) k));
-        there = λ x q k. subst⁻¹ T (h x) (last x q k (ℕ-discrete (k .at) j));
-      }
-    where
-      last : (x : ℕ) → 1 ≤ x → (k : HasCell t i (j + 1) x) → Dec (k .at ≡ j) → T (held b rows x || among (stone c) x)
-      last x q k (yes y) =
-          right (held b rows x) (among (stone c) x)
-          (subst⁻¹ T (stone-of c x q) (holds-of (eq-eqb x c (sym (e ∙ subst (λ (m : ℕ). cellIn t m ≡ x) y (k .is))))))
-      last x q k (no y) = left (held b rows x) (among (stone c) x) (g .there x q (record { at = k .at; from = k .from; to = omega (arith, k .to); is = k .is }))
-
-  -- all are the node's
-  pub gathered-all : end ≤ j → j ≤ end → CellsAny b t i rows
+  pub node-cells : {end : ℕ} {rows : List ℕ} → end ≡ endIn t i → HeldInRows b t i end rows → CellsAny b t i rows
   unfolding inNodes size
-  gathered-all p q k c u n x o =
-      let here : Each (WeighedOn b t) k i (Rattle.nodes.specs.Nodes.alone c u) = first (n .here) (n .below) nothing in
-      let same : j ≡ i + 1 + size u = omega (arith, g .to-end, n .here .weight .end) in
+  node-cells {rows = rows} e g k c u n x o =
+      let here : Each (WeighedOn b t) k i (alone c u) = first (n .here) (n .below) nothing in
+      let same = n .here .weight .end in
       same-test (held b rows x) (inNode k c u x)
-      (λ h. ⊎-elim (λ y. y) (λ y. absurd y) (cases (inNode k c u x) false (rows-nodes here x o (wider (omega arith) (omega arith) (g .all x o h)))))
-      (λ h. g .there x o (wider (omega arith) (omega arith) (nodes-rows here x o (left (inNode k c u x) false h))))
+      (λ h. ⊎-elim (λ y. y) (λ y. absurd y) (cases (inNode k c u x) false (rows-nodes here x o (wider (omega arith) (omega (arith, e, same)) (g .stands x o h)))))
+      (λ h. g .is-held x o (wider (omega arith) (omega (arith, e, same)) (nodes-rows here x o (left (inNode k c u x) false h))))

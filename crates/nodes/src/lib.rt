@@ -216,12 +216,5 @@ pub fn cells_at(t: &[u32], board: Board, i: usize) -> Cells
     ensures { λ r. ⌜ CellsAny board (now (t .entry)) i (r .rows) ⌝ }
 {
     let end = end_at(t, i);
-    let mut cells = Cells::empty();
-    let mut j = i;
-    while j < end {
-        let cell = cell_at(t, j);
-        cells = with_stone(cells, board, cell);
-        j += 1;
-    }
-    cells
+    Cells::of_rows(t, board, i, end)
 }
