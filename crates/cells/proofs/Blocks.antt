@@ -42,13 +42,13 @@ module _ (left right : ℕ) (h : left ≤ right) where
       let e : right + 1 ≡ wide + left = omega arith in
       ap (λ (n : ℕ). 2 ^ n - 2 ^ left) e ∙ high-ones wide left
 
-  word-in : (c : ℕ) → left ≤ c → c ≤ right → digit (2 ^ (right + 1) - 2 ^ left) c ≡ 1
+  pub word-in : (c : ℕ) → left ≤ c → c ≤ right → digit (2 ^ (right + 1) - 2 ^ left) c ≡ 1
   word-in c l m =
       let e : c ≡ left + (c - left) = omega arith in
       ap (λ (x : ℕ). digit x c) word-is ∙ ap (digit ((2 ^ wide - 1) * 2 ^ left)) e ∙ digit-up (2 ^ wide - 1) left (c - left)
       ∙ digit-ones wide (c - left) (omega arith)
 
-  word-out : (c : ℕ) → digit (2 ^ (right + 1) - 2 ^ left) c ≡ 1 → (left ≤ c) × (c ≤ right)
+  pub word-out : (c : ℕ) → digit (2 ^ (right + 1) - 2 ^ left) c ≡ 1 → (left ≤ c) × (c ≤ right)
   word-out c d = go (decLe left c) (ap (λ (x : ℕ). digit x c) (sym word-is) ∙ d)
     where
       go : Dec (left ≤ c) → digit ((2 ^ wide - 1) * 2 ^ left) c ≡ 1 → (left ≤ c) × (c ≤ right)

@@ -1,13 +1,13 @@
 -- Which cells a set holds after each operation: the laws that callers use.
 use mathlib.Core.Path.{_≡_, sym, _∙_, subst}
-use mathlib.Core.Bool.{true, false, not, _&&_, _||_}
+use mathlib.Core.Bool.{true, false, _&&_, _||_}
 use mathlib.Core.Logic.{_⊎_, inl, inr, ⊎-elim}
 use mathlib.Core.List.{List}
 use Prim.Native.Nat.{ℕ, _*_, _%_, _^_, _<_}
 use native.Mathlib.Decide.{ℕ-discrete}
 use native.Mathlib.Omega.{arith}
 use lib.Bits.{bitOr}
-use lib.Dec.{T, eqb, eqb→eq, eqb-refl, not-T, T-not}
+use lib.Dec.{T, eqb, eqb→eq, eqb-refl}
 use lib.ListN.{length, getD, set, replicate}
 use lib.Seq.{getD-set-same, getD-set-other}
 use Rattle.rules.specs.Board.{isCell, columnOf, rowOf, cellAt}
@@ -15,9 +15,9 @@ use Rattle.rules.specs.declared.Board.{Board}
 use Rattle.rules.proofs.Tests.{same-test, false-of, both, fst, snd, left, right, cases}
 use Rattle.rules.proofs.Places.{cell-place, at-place}
 use Rattle.cells.specs.Cells.{digit, held, Fits}
-use Rattle.cells.specs.Rows.{In, mergedRows, beyondRows, PlaceOf}
+use Rattle.cells.specs.Rows.{In, mergedRows, PlaceOf}
 use Rattle.cells.proofs.Digits.{one-shl, or-l, or-r, or-one, pow-self, pow-only}
-use Rattle.cells.proofs.Words.{in-empty, either-in, either-out, both-in, both-out, beyond-rows-in, beyond-rows-out}
+use Rattle.cells.proofs.Words.{in-empty, either-in, either-out, both-in, both-out}
 
 module _ (b : Board) (s : List ℕ) (x : ℕ) where
   -- only cells of the board are held
@@ -74,19 +74,6 @@ module _ (b : Board) (s t : List ℕ) (long : length s ≡ 21) (long′ : length
       let p = fst (held b s x) (held b t x) h in
       let q = snd (held b s x) (held b t x) h in
       in-held b (mergedRows false s t) x (held-cell b s x p) (both-in s t long long′ (columnOf b x) (rowOf b x) (held-in b s x p) (held-in b t x q)))
-
-  pub held-beyond : held b (beyondRows s t) x ≡ (held b s x && not (held b t x))
-  held-beyond =
-      same-test (held b (beyondRows s t) x) (held b s x && not (held b t x))
-      (λ h.
-      let i = held-cell b (beyondRows s t) x h in
-      let e = beyond-rows-out s t long long′ (columnOf b x) (rowOf b x) (held-in b (beyondRows s t) x h) in
-      both (held b s x) (not (held b t x)) (in-held b s x i (e .0)) (not-T (held b t x) (λ g. e .1 (held-in b t x g))))
-      (λ h.
-      let p = fst (held b s x) (not (held b t x)) h in
-      let q = T-not (held b t x) (snd (held b s x) (not (held b t x)) h) in
-      let i = held-cell b s x p in
-      in-held b (beyondRows s t) x i (beyond-rows-in s t long long′ (columnOf b x) (rowOf b x) (held-in b s x p) (λ e. q (in-held b t x i e))))
 
 -- one cell more: the digit of its column is set in the word of its row
 module _ (b : Board) (s : List ℕ) (x : ℕ) (long : length s ≡ 21) (fits : Fits b) (cell : T (isCell b x)) where

@@ -12,6 +12,7 @@ pub mod Reached
 pub mod Room
 pub mod Sides
 pub mod Smallest
+pub mod Beyond
 pub mod Words
 pub mod Growing
 pub mod OneReply

@@ -9,8 +9,8 @@ use native.Mathlib.Omega.{arith}
 use lib.Bits.{bitAnd, bitOr}
 use lib.ListN.{length, getD, replicate, List·getD-eq-default}
 use Rattle.cells.specs.Cells.{digit}
-use Rattle.cells.specs.Rows.{In, fill, mergedRows, beyondRow, beyondRows}
-use Rattle.cells.proofs.Digits.{or-l, or-r, or-one, and-both, and-l, and-r, beyond-in, beyond-l, beyond-r, digit-zero}
+use Rattle.cells.specs.Rows.{In, fill, mergedRows}
+use Rattle.cells.proofs.Digits.{or-l, or-r, or-one, and-both, and-l, and-r, digit-zero}
 use Rattle.cells.proofs.Fill.{fill-below, fill-above}
 
 -- a list of 21 rows has no cell beyond them
@@ -59,12 +59,3 @@ module _ (s t : List ℕ) (long : length s ≡ 21) (long′ : length t ≡ 21) (
   both-out e =
       let d = filled-out (λ k. bitAnd (getD s k 0) (getD t k 0)) s long c r e in
       (and-l (getD s r 0) (getD t r 0) c d, and-r (getD s r 0) (getD t r 0) c d)
-
-  pub beyond-rows-in : In s c r → (In t c r → ⊥) → In (beyondRows s t) c r
-  beyond-rows-in e g =
-      filled-in (λ k. beyondRow (getD s k 0) (getD t k 0)) s long c r (in-long s c r long e) (beyond-in (getD s r 0) (getD t r 0) c e g)
-
-  pub beyond-rows-out : In (beyondRows s t) c r → In s c r × (In t c r → ⊥)
-  beyond-rows-out e =
-      let d = filled-out (λ k. beyondRow (getD s k 0) (getD t k 0)) s long c r e in
-      (beyond-l (getD s r 0) (getD t r 0) c d, beyond-r (getD s r 0) (getD t r 0) c d)

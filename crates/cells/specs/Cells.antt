@@ -1,11 +1,11 @@
 -- A set of cells as 21 row words: which cells of a board it holds.
-use mathlib.Core.Bool.{Bool, _&&_}
+use mathlib.Core.Bool.{Bool, not, _&&_}
 use mathlib.Core.List.{List, _++_}
 use mathlib.Core.Path.{_≡_}
 use Prim.Native.Nat.{ℕ, _+_, _*_, _/_, _%_, _^_, _<_, _≤_}
 use lib.Dec.{T, eqb}
 use lib.ListN.{length, getD, drop}
-use Rattle.rules.specs.Words.{among}
+use Rattle.rules.specs.Words.{among, any, upTo}
 use Rattle.rules.specs.Board.{cells, isCell, columnOf, rowOf}
 use Rattle.rules.specs.declared.Board.{Board}
 
@@ -16,6 +16,10 @@ digit n k = n / 2 ^ k % 2
 -- x is a cell of the board, and digit c of word r is set, where c is its column and r its row
 unfoldable pub held : Board → List ℕ → ℕ → Bool
 held b rows x = isCell b x && eqb (digit (getD rows (rowOf b x) 0) (columnOf b x)) 1
+
+-- some cell of the board is in one set and not in the other
+unfoldable pub someBeyond : Board → (rows other : List ℕ) → Bool
+someBeyond b s t = any (λ x. held b s x && not (held b t x)) (upTo (cells b))
 
 -- the set is that of these cells
 pub record Holds (b : Board) (rows xs : List ℕ) : Type 0 where

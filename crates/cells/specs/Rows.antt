@@ -32,9 +32,6 @@ mergedRows either s t = fill (λ k. mergedRow either (getD s k 0) (getD t k 0)) 
 abbrev pub beyondRow : ℕ → ℕ → ℕ
 beyondRow a b = bitXor a (bitAnd a b)
 
-abbrev pub beyondRows : List ℕ → List ℕ → List ℕ
-beyondRows s t = fill (λ k. beyondRow (getD s k 0) (getD t k 0)) 21 s
-
 -- column c and row r are those of the cell x, and stand inside the words
 pub record PlaceOf (b : Board) (x c r : ℕ) : Type 0 where
   pub column-is : c ≡ columnOf b x

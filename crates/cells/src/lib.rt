@@ -2,7 +2,7 @@
 // each row, bit c of word r for the cell at column c, row r, both from 1; the words have an empty border on every side of a
 // board of up to 19 by 19. It sees rules.
 ghost use mathlib.Core.Path.{_≡_};
-ghost use mathlib.Core.Bool.{true, false, not, _&&_, _||_};
+ghost use mathlib.Core.Bool.{true, false, _&&_, _||_};
 ghost use mathlib.Core.List.{List};
 ghost use Prim.Native.Nat.{ℕ, _≤_};
 ghost use lib.Dec.{T, eqb};
@@ -10,7 +10,7 @@ ghost use lib.ListN.{length, replicate};
 ghost use Rattle.rules.specs.Board.{isCell, onFirstSide, onLastSide, listed, smallest};
 ghost use Rattle.rules.specs.Joining.{joined};
 ghost use Rattle.rules.specs.declared.Board as declared;
-ghost use Rattle.cells.specs.Cells.{held, Fits, Listed, RowsHold, HeldInRows};
+ghost use Rattle.cells.specs.Cells.{held, someBeyond, Fits, Listed, RowsHold, HeldInRows};
 ghost use Rattle.cells.specs.Rows.{mergedRow, mergedRows, beyondRow, PlaceOf, Block, Clipped, Side};
 ghost use Rattle.cells.specs.Growing.{grownRow, Framed, Closure};
 use rules::Board;
@@ -228,15 +228,18 @@ impl Cells {
         merged(self, other, false)
     }
 
-    // The cells of one set that are not in the other. (A third way of `merged` would slow the other two.)
-    pub fn beyond(self, other: Cells) -> Self
-        ensures { λ r. ⌜ ((b : declared.Board) (x : ℕ) → held b (r .rows) x ≡ (held b (self .rows) x && not (held b (other .rows) x))) ⌝ }
+    // Whether some cell of the board is in the set and not in the other.
+    pub fn exceeds(self, board: Board, other: Cells) -> bool
+        requires { ⌜ Fits board ⌝ }
+        ensures { λ r. ⌜ r ≡ someBeyond board (self .rows) (other .rows) ⌝ }
     {
-        let mut out = self;
-        for i in 0..21 {
-            out.rows[i] = beyond_row(out.rows[i], other.rows[i]);
+        let word = (1u32 << (board.columns + 1)) - (1u32 << 1usize);
+        for i in 1..board.rows + 1 {
+            if beyond_row(self.rows[i] & word, other.rows[i]) != 0 {
+                return true;
+            }
         }
-        out
+        false
     }
 
     // The smallest cell of the board in the set; 0 where there is none.
