@@ -1,18 +1,21 @@
 -- A loop over the moves of a wait that looks at each: what was told of those before, and what is left. For any statement of these.
-use mathlib.Core.Path.{_≡_, refl, sym, ap, _∙_, subst, subst⁻¹}
-use mathlib.Core.Bool.{Bool}
+use mathlib.Core.Path.{_≡_, refl, sym, ap, _∙_, subst}
+use mathlib.Core.Bool.{true}
+use mathlib.Core.Logic.{_⊎_, ⊎-elim}
 use mathlib.Core.List.{List}
 use mathlib.Core.Option.{none}
-use Prim.Native.Nat.{ℕ, suc, _+_, _<_, _≤_}
+use Prim.Native.Nat.{ℕ, suc, _+_, _-_, _≤_}
 use native.Mathlib.Omega.{arith}
 use Rattle.rules.specs.declared.Board.{Board}
 use Rattle.rules.specs.Tree.{Waits, Moves, noMoves, move}
-use Rattle.rules.specs.Live.{Shared, andThis, isLive}
-use Rattle.nodes.specs.Nodes.{Nodes, noNodes, node, aWait, aMove, nodesOfWaits, nodesOfMoves, size}
+use Rattle.rules.specs.Live.{Shared, andThis, isLive, livingAfter, idleUnder}
+use Rattle.nodes.specs.Nodes.{Nodes, node, Kind, aWait, aMove, many, nodesOfWaits, nodesOfMoves, size}
 use Rattle.nodes.specs.Table.{Property, WeighedOn, At}
+use Rattle.nodes.proofs.Walk.{Walking}
 use Rattle.live.specs.Looking.{CommonIs, NoneBefore, LookedAny}
 use Rattle.live.specs.declared.Common.{Common}
 use Rattle.live.specs.declared.Looked.{Looked}
+use Rattle.live.proofs.Sharing.{spent-all}
 
 -- a statement of all moves of a wait, the cells common to those before, and those that are left
 abbrev pub Statement : Type 1
@@ -71,11 +74,32 @@ asked-again {b} {t} {z} {r} {next} R R′ look c v m step u a f = record { of = 
           holds = step ms (l .before) (x .line) (x .waits) (x .others) at (told .live-is) (subst (R ms (l .before)) (x .is) (l .holds));
         }
 
--- none is left
-pub asked-none : {b : Board} {z : Common} {R : Statement} (ms : Moves) → Asked b z R (nodesOfMoves ms) noNodes → (before : Shared) × R ms before noMoves
-unfolding nodesOfMoves
-asked-none {b} {z} {R} ms f = let l = f .of ms refl in (l .before, subst (R ms (l .before)) (empty (l .moves) (l .are)) (l .holds))
-  where
-    empty : (ns : Moves) → noNodes ≡ nodesOfMoves ns → ns ≡ noMoves
-    empty noMoves e = refl
-    empty (move line c ws ns) e = absurd (let z : 0 ≡ suc (size (nodesOfWaits ws) + size (nodesOfMoves ns)) = unfold size in ap size e in omega arith)
+-- No move is left, or none that is left is live
+abbrev pub Stops : (z : Common) → (under j : ℕ) → Type 0
+Stops z under j = (under ≤ j) ⊎ (z .spent ≡ true)
+
+pub record Stopped (R : Statement) (ms : Moves) (left : ℕ) : Type 0 where
+  pub before : Shared
+  pub moves : Moves
+  pub holds : R ms before moves
+  pub none-live : livingAfter before moves ≡ noMoves
+  pub all-idle : idleUnder before moves ≡ left
+
+no-more : (before : Shared) (ms : Moves) → many (nodesOfMoves ms) ≡ 0 → (livingAfter before ms ≡ noMoves) × (idleUnder before ms ≡ many (nodesOfMoves ms))
+unfolding livingAfter idleUnder nodesOfMoves many
+no-more before noMoves e = (refl, refl)
+no-more before (move line c ws ms) e = absurd (omega arith)
+
+module _ {P : Property} {b : Board} {t : List ℕ} {i under next j : ℕ} {z : Common} {R : Statement} (w : Walking P (WeighedOn b t) aWait i under next j (Asked b z R)) (stop : Stops z under j) where
+  pub asked-stop : (ms : Moves) → At P aWait i 0 (nodesOfMoves ms) → Stopped R ms (under - j)
+  asked-stop ms m =
+      let l = w .left 0 (nodesOfMoves ms) m in
+      let k = l .holds .of ms refl in
+      let same : many (nodesOfMoves (k .moves)) ≡ under - j = ap many (sym (k .are)) ∙ l .many-left in
+      let d : (livingAfter (k .before) (k .moves) ≡ noMoves) × (idleUnder (k .before) (k .moves) ≡ many (nodesOfMoves (k .moves))) =
+      ⊎-elim (λ p. no-more (k .before) (k .moves) (omega (arith, same))) (λ e. spent-all b z e (k .before) (k .common) (k .moves)) stop in
+      record { before = k .before; moves = k .moves; holds = k .holds; none-live = d .0; all-idle = d .1 ∙ same }
+
+-- it is no further than the wait goes
+pub walk-within : {P Q : Property} {k : Kind} {i under next j c : ℕ} {u : Nodes} {R : Nodes → Nodes → Type 0} → Walking P Q k i under next j R → At P k i c u → next ≤ i + 1 + size u
+walk-within {c = c} {u = u} w m = omega (arith, w .left c u m .to-end)

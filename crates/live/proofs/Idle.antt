@@ -3,7 +3,7 @@ use mathlib.Core.Path.{_≡_, refl, sym, ap, _∙_, subst}
 use mathlib.Core.Bool.{Bool, true, false, not, false≢true}
 use mathlib.Core.List.{List, [], _∷_}
 use mathlib.Core.Option.{none}
-use Prim.Native.Nat.{ℕ, suc, _+_, _<_, _≤_}
+use Prim.Native.Nat.{ℕ, suc, _+_, _-_, _<_, _≤_}
 use native.Mathlib.Nat.{add-zero}
 use native.Mathlib.Omega.{arith}
 use Rattle.rules.specs.declared.Board.{Board}
@@ -20,7 +20,7 @@ use Rattle.nodes.specs.Table.{underIn, isMoveAt, WeighedOn, Each, SomeNode}
 use Rattle.nodes.specs.Order.{TreeNode, isMove, isWait, waitsAmong}
 use Rattle.nodes.proofs.Order.{waits-of-waits}
 use Rattle.nodes.proofs.Trees.{move-first}
-use Rattle.nodes.proofs.Walk.{Walking, walking-starts, walking-again, walking-ends}
+use Rattle.nodes.proofs.Walk.{Walking, walking-starts, walking-again}
 use Rattle.fair.specs.Faults.{NodeAt, moveAt, waitAt, SomeTreeNode}
 use Rattle.fair.proofs.WhichKind.{move-is, of-move}
 use Rattle.fair.proofs.Laid.{treeOf}
@@ -28,7 +28,7 @@ use Rattle.fair.proofs.Adding.{Sum}
 use Rattle.live.specs.Looking.{NoneBefore, LookedAny, ForkOn, idleIn, ElusiveNode}
 use Rattle.live.specs.declared.Common.{Common}
 use Rattle.live.specs.declared.Looked.{Looked}
-use Rattle.live.proofs.Asking.{Statement, Asked, asked-all, asked-again, asked-none}
+use Rattle.live.proofs.Asking.{Statement, Asked, asked-all, asked-again, Stops, asked-stop}
 
 -- ---- of a wait
 
@@ -72,11 +72,10 @@ module _ {b : Board} {t : List ℕ} {i under next j : ℕ} {z : Common} {idle : 
         few = omega (arith, w .few, e, one-at-most (not (r .live)));
       }
 
-  pub counting-done : under ≤ j → (v : Wait) → ForkOn b t i v → idle ≡ idleAt v
-  unfolding idleUnder
+  pub counting-done : Stops z under j → (v : Wait) → ForkOn b t i v → idle + (under - j) ≡ idleAt v
   counting-done p v a =
-      let d = asked-none (v .moves) (walking-ends (w .walk) p 0 (nodesOfMoves (v .moves)) a .1) in
-      omega (arith, d .1)
+      let d = asked-stop (w .walk) p (v .moves) a in
+      omega (arith, d .holds, d .all-idle)
 
 -- ---- of a node
 

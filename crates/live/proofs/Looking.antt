@@ -1,26 +1,22 @@
 -- Looking at a move of the table.
-use mathlib.Core.Path.{_≡_, sym, _∙_, subst⁻¹}
-use mathlib.Core.Bool.{true, false, _||_, true≢false}
+use mathlib.Core.Path.{_≡_, ap, _∙_, subst⁻¹}
+use mathlib.Core.Bool.{_||_}
 use mathlib.Core.List.{List}
 use mathlib.Core.Logic.{⊎-elim}
-use mathlib.Core.Option.{none, some}
-use mathlib.Core.Path.{ap}
 use Prim.Native.Nat.{ℕ, _+_, _≤_}
 use native.Mathlib.Omega.{arith}
 use lib.Dec.{T, eqb, eqb→eq}
 use Rattle.rules.specs.declared.Board.{Board}
 use Rattle.rules.specs.Tree.{Waits}
 use Rattle.rules.specs.Fair.{inWaits, inMove}
-use Rattle.rules.specs.Live.{Shared, andThis}
 use Rattle.rules.proofs.Tests.{cases}
 use Rattle.nodes.specs.Nodes.{Nodes, Kind, aWait, aMove, other, nodesOfWaits, named, inNodes}
 use Rattle.nodes.specs.Table.{endIn, Celled, WeighedOn, Each, nothing, first, At}
 use Rattle.nodes.specs.Collecting.{CellsAny}
 use Rattle.nodes.proofs.Trees.{waits-cells}
-use Rattle.live.specs.Looking.{CellsAre, CommonIs, LivesAny, NarrowedAny, Told, LookedAny}
+use Rattle.live.specs.Looking.{CellsAre, LivesAny, NarrowedAny, LookedAny}
 use Rattle.live.specs.declared.Common.{Common}
 use Rattle.live.specs.declared.Looked.{Looked}
-use Rattle.live.proofs.Sharing.{spent-idle, spent-still}
 
 -- below the root no node has the cell 0
 no-zero : {b : Board} {t : List ℕ} {k : Kind} {i : ℕ} {n : Nodes} → 1 ≤ i → Each (WeighedOn b t) k i n → T (inNodes k n 0) → ⊥
@@ -57,12 +53,3 @@ module _ {b : Board} {t : List ℕ} {i : ℕ} where
             let own = move-cells p h c ws a in
             record { live-is = l before c ws k own; common-is = n before c ws k own };
       }
-
-  -- where no cell is common the cells are not asked for
-  pub looked-past : (z : Common) (next : ℕ) → z .spent ≡ true → next ≡ endIn t i → LookedAny b t i z (record { live = false; next = next; common = z })
-  looked-past z next e n = record { next-is = λ c u a. n ∙ a .here .weight .end; tells = past }
-    where
-      past : (before : Shared) (c : ℕ) (ws : Waits) → CommonIs b z before → At (WeighedOn b t) aMove i c (nodesOfWaits ws)
-          → Told b before c ws (record { live = false; next = next; common = z })
-      past none c ws k a = absurd (true≢false (sym e ∙ k .none-spent))
-      past (some xs) c ws k a = record { live-is = spent-idle b z xs e k c ws; common-is = unfold andThis in spent-still b z xs e k c ws }

@@ -1,27 +1,28 @@
 -- The cells common to all moves before: whether one more move is live, and what is common with it.
-use mathlib.Core.Path.{_≡_, refl, sym, _∙_, subst, subst⁻¹}
+use mathlib.Core.Path.{_≡_, refl, sym, ap, _∙_, subst, subst⁻¹}
 use mathlib.Core.Bool.{Bool, true, false, not, _&&_, true≢false}
 use mathlib.Core.Logic.{⊎-elim}
 use mathlib.Core.List.{List}
 use mathlib.Core.Option.{none, some}
-use Prim.Native.Nat.{ℕ, zero, suc, _≤_}
+use Prim.Native.Nat.{ℕ, suc, _≤_}
 use native.Mathlib.Nat.{eq-zero-or-pos}
 use native.Mathlib.Omega.{arith}
-use lib.Dec.{T, eqb, eqb→eq, not-T}
+use lib.Dec.{T, not-T, T-not}
 use Rattle.rules.specs.declared.Board.{Board}
-use Rattle.rules.specs.Board.{smallest}
-use Rattle.rules.specs.Words.{among, keep}
-use Rattle.rules.specs.Tree.{Waits}
+use Rattle.rules.specs.Words.{among, keep, any, oneIf}
+use Rattle.rules.specs.Tree.{Waits, Moves, noMoves, move}
 use Rattle.rules.specs.Fair.{inMove}
-use Rattle.rules.specs.Live.{andThis, isLive}
-use Rattle.rules.proofs.Tests.{holds-of, false-of, same-test, both, fst, snd}
+use Rattle.rules.specs.Live.{Shared, andThis, isLive, livingAfter, idleUnder}
+use Rattle.rules.proofs.Tests.{false-of, same-test, both, fst, snd}
 use Rattle.rules.proofs.Lists.{keep-in, in-keep, any-some, some-any}
 use Rattle.rules.proofs.Live.{move-listed}
-use Rattle.rules.proofs.Smallest.{smallest-some, smallest-none}
-use Rattle.cells.specs.Cells.{held}
+use Rattle.rules.proofs.Places.{cell-range}
+use Rattle.cells.specs.Cells.{held, someBeyond}
 use Rattle.cells.specs.declared.Cells.{Cells}
 use Rattle.cells.proofs.Held.{held-cell}
-use Rattle.live.specs.Looking.{CellsAre, SomeBefore, LivesAny, NarrowedAny}
+use Rattle.cells.proofs.Beyond.{beyond-some, some-beyond}
+use Rattle.nodes.specs.Nodes.{many, nodesOfMoves}
+use Rattle.live.specs.Looking.{SomeBefore, CommonIs, LivesAny, NarrowedAny}
 use Rattle.live.specs.declared.Common.{Common}
 
 clash : {A : Type 0} {y : Bool} → y ≡ true → y ≡ false → A
@@ -46,35 +47,24 @@ lives-first b z own e none c ws h k = e
 lives-first b z own e (some xs) c ws h k = clash (h .some-some) (unset (z .some) e)
 
 -- where some were, it is live if a common cell isn't in it
-module _ (b : Board) (z : Common) (own more : List ℕ) (e : z .some ≡ true) (n : ℕ) (least : n ≡ smallest b (held b more))
-    (beyond : (x : ℕ) → held b more x ≡ (held b (z .cells .rows) x && not (held b own x))) where
-  module _ (xs : List ℕ) (c : ℕ) (ws : Waits) (h : SomeBefore b z xs) (k : CellsAre b own c ws) where
-    was : ℕ → Bool
-    was x = held b (z .cells .rows) x
+pub lives-later : (b : Board) (z : Common) (own : List ℕ) → z .some ≡ true → (r : Bool) → r ≡ someBeyond b (z .cells .rows) own → LivesAny b z own r
+unfolding isLive
+lives-later b z own e r is none c ws h k = clash e (h .none-some)
+lives-later b z own e r is (some xs) c ws h k = is ∙ same-test (someBeyond b (z .cells .rows) own) (any (λ x. not (inMove c ws x)) xs) there back
+  where
+    there : T (someBeyond b (z .cells .rows) own) → T (any (λ x. not (inMove c ws x)) xs)
+    there p =
+        let d = beyond-some b (z .cells .rows) own p in
+        let x = d .0 in
+        let pos = cell-range b x (held-cell b (z .cells .rows) x (d .1)) .0 in
+        some-any (λ y. not (inMove c ws y)) x xs (subst T (h .same x pos) (d .1)) (not-T (inMove c ws x) (λ i. d .2 (subst⁻¹ T (k .same x pos) i)))
 
-    missing : (m : ℕ) → m ≡ smallest b (held b more) → T (not (eqb m 0)) → T (isLive (some xs) c ws)
-    unfolding isLive was
-    missing zero q p = absurd p
-    missing (suc m) q p =
-        let d = smallest-some b (held b more) m (sym q) in
-        let f = subst T (beyond (suc m)) (d .in-set) in
-        some-any (λ y. not (inMove c ws y)) (suc m) xs
-        (subst T (h .same (suc m) (omega arith)) (fst (was (suc m)) (not (held b own (suc m))) f))
-        (subst (λ (y : Bool). T (not y)) (k .same (suc m) (omega arith)) (snd (was (suc m)) (not (held b own (suc m))) f))
-
-    missed : T (isLive (some xs) c ws) → T (not (eqb n 0))
-    unfolding isLive was
-    missed p =
+    back : T (any (λ x. not (inMove c ws x)) xs) → T (someBeyond b (z .cells .rows) own)
+    back p =
         let d = any-some (λ y. not (inMove c ws y)) xs p in
         let x = d .0 in
         let pos = listed-pos xs x (h .no-zero) (d .1) in
-        let f = both (was x) (not (held b own x)) (subst⁻¹ T (h .same x pos) (d .1)) (subst⁻¹ (λ (y : Bool). T (not y)) (k .same x pos) (d .2)) in
-        let g : T (held b more x) = subst⁻¹ T (beyond x) f in
-        not-T (eqb n 0) (λ y. smallest-none b (held b more) (sym least ∙ eqb→eq n 0 y) x (held-cell b more x g) g)
-
-  pub lives-later : LivesAny b z own (not (eqb n 0))
-  lives-later none c ws h k = clash e (h .none-some)
-  lives-later (some xs) c ws h k = same-test (not (eqb n 0)) (isLive (some xs) c ws) (missing xs c ws h k n least) (missed xs c ws h k)
+        some-beyond b (z .cells .rows) own x (subst⁻¹ T (h .same x pos) (d .1)) (λ i. T-not (inMove c ws x) (d .2) (subst T (k .same x pos) i))
 
 -- the cells of the first move are common
 pub narrowed-first : (b : Board) (z : Common) (own : Cells) → z .some ≡ false → NarrowedAny b z (own .rows) (record { some = true; spent = false; cells = own })
@@ -88,26 +78,23 @@ narrowed-first b z own e none c ws h k =
     }
 narrowed-first b z own e (some xs) c ws h k = clash (h .some-some) e
 
--- of those that were common, those of one more move are
-pub narrowed-later : (b : Board) (z : Common) (own more : Cells) (n : ℕ) → z .some ≡ true
-    → ((x : ℕ) → held b (more .rows) x ≡ (held b (z .cells .rows) x && held b (own .rows) x)) → n ≡ smallest b (held b (more .rows))
-    → NarrowedAny b z (own .rows) (record { some = true; spent = eqb n 0; cells = more })
+-- of those that were common, those of one more move are; none is left where they exceed no empty set
+pub narrowed-later : (b : Board) (z : Common) (own more : Cells) (empty : List ℕ) (left : Bool) → z .some ≡ true
+    → ((x : ℕ) → held b (more .rows) x ≡ (held b (z .cells .rows) x && held b (own .rows) x)) → ((x : ℕ) → held b empty x ≡ false)
+    → left ≡ someBeyond b (more .rows) empty → NarrowedAny b z (own .rows) (record { some = true; spent = not left; cells = more })
 unfolding andThis
-narrowed-later b z own more n e both-are least none c ws h k = clash e (h .none-some)
-narrowed-later b z own more n e both-are least (some xs) c ws h k =
+narrowed-later b z own more empty left e both-are none-there is none c ws h k = clash e (h .none-some)
+narrowed-later b z own more empty left e both-are none-there is (some xs) c ws h k =
     record {
       some-some = refl;
       same = same;
       no-zero = λ m. h .no-zero (keep-in (inMove c ws) 0 xs m .0);
       none-left = λ q x m.
           let pos = listed-pos xs x (h .no-zero) (keep-in (inMove c ws) x xs m .0) in
-          let g : T (held b (more .rows) x) = subst⁻¹ T (same x pos) m in
-          smallest-none b (held b (more .rows)) (sym least ∙ eqb→eq n 0 (holds-of q)) x (held-cell b (more .rows) x g) g;
+          let some = some-beyond b (more .rows) empty x (subst⁻¹ T (same x pos) m) (λ i. subst T (none-there x) i) in
+          subst T (sym is ∙ unset left q) some;
     }
   where
-    was : ℕ → Bool
-    was x = held b (z .cells .rows) x
-
     same : (x : ℕ) → 1 ≤ x → held b (more .rows) x ≡ among (keep (inMove c ws) xs) x
     same x p =
         same-test (held b (more .rows) x) (among (keep (inMove c ws) xs) x)
@@ -118,14 +105,14 @@ narrowed-later b z own more n e both-are least (some xs) c ws h k =
         let f = keep-in (inMove c ws) x xs m in
         subst⁻¹ T (both-are x) (both (held b (z .cells .rows) x) (held b (own .rows) x) (subst⁻¹ T (h .same x p) (f .0)) (subst⁻¹ T (k .same x p) (f .1))))
 
--- where none is left, no move is live, and none is left after it
-module _ (b : Board) (z : Common) (xs : List ℕ) (e : z .spent ≡ true) (h : SomeBefore b z xs) (c : ℕ) (ws : Waits) where
-  pub spent-idle : false ≡ isLive (some xs) c ws
+-- where none is left, no further move is live
+module _ (b : Board) (z : Common) (e : z .spent ≡ true) where
+  spent-idle : (xs : List ℕ) → SomeBefore b z xs → (c : ℕ) (ws : Waits) → isLive (some xs) c ws ≡ false
   unfolding isLive
-  spent-idle = sym (false-of _ (λ l. let d = any-some (λ y. not (inMove c ws y)) xs l in h .none-left e (d .0) (d .1)))
+  spent-idle xs h c ws = false-of _ (λ l. let d = any-some (λ y. not (inMove c ws y)) xs l in h .none-left e (d .0) (d .1))
 
-  pub spent-still : SomeBefore b z (keep (inMove c ws) xs)
-  spent-still =
+  spent-still : (xs : List ℕ) → SomeBefore b z xs → (c : ℕ) (ws : Waits) → SomeBefore b z (keep (inMove c ws) xs)
+  spent-still xs h c ws =
       record {
         some-some = h .some-some;
         same = λ x p. h .same x p ∙ false-of (among xs x) (h .none-left e x) ∙ sym (false-of (among (keep (inMove c ws) xs) x) (gone x));
@@ -135,3 +122,12 @@ module _ (b : Board) (z : Common) (xs : List ℕ) (e : z .spent ≡ true) (h : S
     where
       gone : (x : ℕ) → T (among (keep (inMove c ws) xs) x) → ⊥
       gone x m = h .none-left e x (keep-in (inMove c ws) x xs m .0)
+
+  pub spent-all : (before : Shared) → CommonIs b z before → (ms : Moves) → (livingAfter before ms ≡ noMoves) × (idleUnder before ms ≡ many (nodesOfMoves ms))
+  unfolding livingAfter idleUnder andThis many nodesOfMoves oneIf
+  spent-all none h ms = clash e (h .none-spent)
+  spent-all (some xs) h noMoves = (refl, refl)
+  spent-all (some xs) h (move line c ws ms) =
+      let idle = spent-idle xs h c ws in
+      let rest = spent-all (some (keep (inMove c ws) xs)) (spent-still xs h c ws) ms in
+      (rw idle (rest .0), rw idle (omega (arith, rest .1)))

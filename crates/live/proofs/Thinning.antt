@@ -3,7 +3,7 @@ use mathlib.Core.Path.{_≡_, refl, sym, ap, subst, subst⁻¹, _∙_}
 use mathlib.Core.Bool.{true, false, not}
 use mathlib.Core.List.{List}
 use mathlib.Core.Option.{none}
-use Prim.Native.Nat.{ℕ, suc, _+_, _*_, _<_, _≤_}
+use Prim.Native.Nat.{ℕ, suc, _+_, _-_, _*_, _<_, _≤_}
 use native.Mathlib.Omega.{arith}
 use lib.Dec.{T}
 use lib.ListN.{length, getD}
@@ -19,7 +19,15 @@ use Rattle.live.specs.Looking.{NoneBefore, LookedAny}
 use Rattle.live.specs.Thinning.{Within, MovedUp, StandsTo, MoveThinnedAny, WaitThinnedAny}
 use Rattle.live.specs.declared.Common.{Common}
 use Rattle.live.specs.declared.Looked.{Looked}
-use Rattle.live.proofs.Asking.{Statement, Asked, asked-all, asked-again, asked-none}
+use Rattle.live.proofs.Asking.{Asked, asked-all, asked-again, Stops, Stopped, asked-stop, walk-within}
+
+no-nodes : {ms : Moves} → ms ≡ noMoves → nodesOfMoves ms ≡ noNodes
+unfolding nodesOfMoves
+no-nodes e = ap nodesOfMoves e
+
+none-many : many noNodes ≡ 0
+unfolding many
+none-many = refl
 
 -- ---- what stays in the table
 
@@ -133,12 +141,13 @@ module _ {t₀ t : List ℕ} {to next out next′ : ℕ} (p : next ≤ next′) 
   going-past = record { ahead = g .ahead; behind = omega (arith, g .behind); kept = within-then (omega (arith, g .ahead)) p (g .kept) (within-all t out next′) }
 
 -- the node's own row is stored, so all was moved up
-going-done : {t₀ t : List ℕ} {from to next out : ℕ} (c n : ℕ) → next ≡ endIn t₀ from → Going t₀ t to next out → MovedUp t₀ (withNode t to c n) from to out
-going-done {t₀} {t} {from} {to} {next} {out} c n e g =
+going-done : {t₀ t : List ℕ} {from to next out : ℕ} (c n : ℕ) → next ≤ endIn t₀ from → Going t₀ t to next out → MovedUp t₀ (withNode t to c n) from to out
+going-done {t₀} {t} {from} {to} c n p g =
+    let h = going-past p g in
     record {
-      ahead = g .ahead;
-      behind = omega (arith, g .behind, e);
-      kept = subst (Within t₀ (withNode t to c n) to) e (stored-within t to c n t₀ next (omega (arith, g .ahead, g .behind)) (g .kept));
+      ahead = h .ahead;
+      behind = h .behind;
+      kept = stored-within t to c n t₀ (endIn t₀ from) (omega (arith, h .ahead, h .behind)) (h .kept);
     }
 
 -- ---- the waits of a move
@@ -205,7 +214,7 @@ module _ {b : Board} {t₀ t : List ℕ} {from to under next out j : ℕ} (w : W
   waits-done p s cell n {v} e ce ne room =
       subst⁻¹ (MoveThinnedAny b t₀ from to out) e
       (record {
-        moved = going-done cell n (walking-ends (w .walk) p (s .cell) (s .under) (s .at) .0 ∙ sym (s .at .here .weight .end)) (w .going);
+        moved = going-done cell n (omega (arith, walk-within (w .walk) (s .at), s .at .here .weight .end)) (w .going);
         thinned = λ c ws m.
             let l = walking-ends (w .walk) p c (nodesOfWaits ws) m .1 .of ws refl in
             subst (λ (x : ℕ). StandsTo (withNode t to cell n) aMove to x (nodesOfWaits (living ws)) out) (ce ∙ m .here .weight .row .cell)
@@ -302,14 +311,17 @@ module _ {b : Board} {t₀ t : List ℕ} {from to under next out j : ℕ} {z : C
               many-kept = omega (arith, f .many-kept, ap many q);
             }
 
-  -- all are looked at, and the wait's own row is stored
-  pub moves-done : under ≤ j → SomeNode (WeighedOn b t₀) aWait from → {v : List ℕ} → v ≡ withNode t to 0 kept → 4 * to + 3 < length t → WaitThinnedAny b t₀ from to out v
+  -- no more is live, and the wait's own row is stored
+  pub moves-done : Stops z under j → SomeNode (WeighedOn b t₀) aWait from → {v : List ℕ} → v ≡ withNode t to 0 kept → 4 * to + 3 < length t → WaitThinnedAny b t₀ from to out v
   moves-done p s {v} e room =
       subst⁻¹ (WaitThinnedAny b t₀ from to out) e
       (record {
-        moved = going-done 0 kept (walking-ends (w .walk) p (s .cell) (s .under) (s .at) .0 ∙ sym (s .at .here .weight .end)) (w .going);
-        thinned = λ ms m. done ms (asked-none ms (walking-ends (w .walk) p 0 (nodesOfMoves ms) m .1));
+        moved = going-done 0 kept (omega (arith, walk-within (w .walk) (s .at), s .at .here .weight .end)) (w .going);
+        thinned = λ ms m. done ms (asked-stop (w .walk) p ms m);
       })
     where
-      done : (ms : Moves) → (before : Shared) × Kept t to out kept ms before noMoves → StandsTo (withNode t to 0 kept) aWait to 0 (nodesOfMoves (livingAfter none ms)) out
-      done ms d = unfold livingAfter nodesOfMoves many in built-all 0 kept room (omega (arith, d .1 .many-kept)) (d .1 .built) refl
+      done : (ms : Moves) → Stopped (Kept t to out kept) ms (under - j) → StandsTo (withNode t to 0 kept) aWait to 0 (nodesOfMoves (livingAfter none ms)) out
+      done ms d =
+          let none-left = no-nodes (d .none-live) in
+          let many-left : many (nodesOfMoves (livingAfter (d .before) (d .moves))) ≡ 0 = ap many none-left ∙ none-many in
+          built-all 0 kept room (omega (arith, d .holds .many-kept, many-left)) (subst (Built t aMove to out (nodesOfMoves (livingAfter none ms))) none-left (d .holds .built)) refl

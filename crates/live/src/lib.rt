@@ -49,7 +49,7 @@ impl Common {
         requires { ⌜ Fits board ⌝ }
         ensures { λ r. ⌜ LivesAny board self (cells .rows) r ⌝ }
     {
-        !self.some || self.cells.beyond(cells).least(board) != 0
+        !self.some || self.cells.exceeds(board, cells)
     }
 
     // The cells common to all moves so far and one with these cells.
@@ -65,10 +65,10 @@ impl Common {
             };
         }
         let both = self.cells.meet(cells);
-        let least = both.least(board);
+        let left = both.exceeds(board, Cells::empty());
         Common {
             some: true,
-            spent: least == 0,
+            spent: !left,
             cells: both,
         }
     }
@@ -81,31 +81,23 @@ struct Looked {
     common: Common,
 }
 
-// Looks at the move at node i. Where no cell is common any more no further move is live, and its cells are not asked for.
+// Looks at the move at node i.
 fn look(t: &[u32], board: Board, i: usize, common: Common) -> Looked
     requires fits { ⌜ Fits board ⌝ }
     requires stands { ⌜ SomeNode (WeighedOn board (now t)) aMove i ⌝ }
     requires below { ⌜ 1 ≤ i ⌝ }
     ensures { λ r. ⌜ LookedAny board (now (t .entry)) i common r ⌝ }
 {
-    let next = end_at(t, i);
-    if common.spent {
-        return Looked {
-            live: false,
-            next,
-            common,
-        };
-    }
     let own = cells_at(t, board, i);
     let live = common.lives(board, own);
     Looked {
         live,
-        next,
+        next: end_at(t, i),
         common: common.narrowed(board, own),
     }
 }
 
-// How many moves of the wait at node i aren't live.
+// How many moves of the wait at node i aren't live. Where no cell is common any more, all that are left aren't.
 fn idle_at(t: &[u32], board: Board, i: usize) -> usize
     requires fits { ⌜ Fits board ⌝ }
     requires stands { ⌜ SomeNode (WeighedOn board (now t)) aWait i ⌝ }
@@ -117,6 +109,9 @@ fn idle_at(t: &[u32], board: Board, i: usize) -> usize
     let mut idle = 0;
     let mut j = 0;
     while j < under {
+        if common.spent {
+            break;
+        }
         let m = look(t, board, next, common);
         if !m.live {
             idle += 1;
@@ -125,7 +120,7 @@ fn idle_at(t: &[u32], board: Board, i: usize) -> usize
         common = m.common;
         j += 1;
     }
-    idle
+    idle + (under - j)
 }
 
 // How many moves right under node i aren't live. (An elusive wait of two moves has none.)
@@ -194,6 +189,9 @@ fn thin_wait(t: &mut [u32], board: Board, from: usize, to: usize) -> usize
     let mut kept: u32 = 0;
     let mut j = 0;
     while j < under {
+        if common.spent {
+            break;
+        }
         let m = look(t, board, next, common);
         if m.live {
             out = thin_move(t, board, next, out);

@@ -1,6 +1,6 @@
 -- The proof of the cycle of calls {thin_move, thin_wait}. The measure is the table's length less the node: each call is at a later node.
 use mathlib.Core.Path.{refl, _∙_}
-use mathlib.Core.Logic.{⊎-elim}
+use mathlib.Core.Logic.{inl, inr, ⊎-elim}
 use Prim.Native.Nat.{ℕ, _<_, _-_}
 use native.Mathlib.Omega.{arith}
 use lib.ListN.{length}
@@ -145,22 +145,22 @@ module _ (t : ℕ) where
 
   w-look-requires : w-lts.Need-look-requires (W t) (w-at t) thin-wait.Post w-Inv w-μ
   w-look-requires c κs =
-      let g = c .before .before .loop .inv in
-      let p = c .before .before .before .before .before .before .before .pre .1 in
+      let g = c .before .before .before .loop .inv in
+      let p = c .before .before .before .before .before .before .before .before .pre .1 in
       (p .0, (walking-child (g .walk) (omega arith) (p .1 .0), omega (arith, g .walk .on)))
 
   w-thin-move-requires : w-lts.Need-thin-move-requires (W t) (w-at t) thin-wait.Post w-Inv w-μ
   w-thin-move-requires c κs =
-      let g = c .before .before .before .before .before .loop .inv in
-      let p = c .before .before .before .before .before .before .before .before .before .before .pre in
+      let g = c .before .before .before .before .before .before .loop .inv in
+      let p = c .before .before .before .before .before .before .before .before .before .before .before .pre in
       let n = walking-child (g .walk) (omega arith) (p .1 .1 .0) in
       (omega (arith, n .at .here .weight .row .room, g .walk .on, g .going .kept .long, p .0), (p .1 .0, (n, (omega (arith, g .going .kept .long, p .1 .1 .1 .0), g .going .behind))))
 
   w-add-kept : w-lts.Need-add-kept (W t) (w-at t) thin-wait.Post w-Inv w-μ
   w-add-kept c =
-      let g = c .before .before .before .before .before .before .before .before .loop .inv in
-      let p = c .before .before .before .before .before .before .before .before .before .before .before .before .before .pre .1 .1 in
-      omega (arith, g .few, g .walk .turns, c .before .before .before .before .before .before .before .before .before .before .under-at .ensures, under-few (p .0), p .1 .0)
+      let g = c .before .before .before .before .before .before .before .before .before .loop .inv in
+      let p = c .before .before .before .before .before .before .before .before .before .before .before .before .before .before .pre .1 .1 in
+      omega (arith, g .few, g .walk .turns, c .before .before .before .before .before .before .before .before .before .before .before .under-at .ensures, under-few (p .0), p .1 .0)
 
   w-add-j : w-lts.Need-add-j (W t) (w-at t) thin-wait.Post w-Inv w-μ
   w-add-j c = omega arith
@@ -170,14 +170,14 @@ module _ (t : ℕ) where
 
   w-loop-again : w-lts.Need-loop-again (W t) (w-at t) thin-wait.Post w-Inv w-μ
   w-loop-again c =
-      let g = c .before .before .before .before .before .loop .inv in
-      let p = c .before .before .before .before .before .before .before .before .before .before .pre .1 .1 in
+      let g = c .before .before .before .before .before .before .loop .inv in
+      let p = c .before .before .before .before .before .before .before .before .before .before .before .pre .1 .1 in
       let n = walking-child (g .walk) (omega arith) (p .0) in
       let l = c .before .before .look .ensures in
       ⊎-elim
       (λ y. rw (y .5, y .6, y .7) (moves-live g (omega arith) n (p .0) l (y .0 .taken) (y .2 .ensures) refl))
       (λ y. rw (y .1, y .2, y .3) (moves-idle g (omega arith) n (p .0) l (y .0 .left)))
-      (c .before .if1 .came)
+      (c .before .if2 .came)
 
   w-set-node-requires : w-lts.Need-set-node-requires (W t) (w-at t) thin-wait.Post w-Inv w-μ
   w-set-node-requires c κs =
@@ -191,7 +191,7 @@ module _ (t : ℕ) where
   w-returns c =
       let p = c .before .before .before .before .before .before .before .before .before .before .pre .1 .1 in
       let g = c .before .before .before .before .before .loop .inv in
-      moves-done g (omega arith) (p .0) (c .before .before .set-node .ensures) (omega (arith, p .0 .at .here .weight .row .room, p .1 .1, g .going .kept .long))
+      moves-done g (⊎-elim (λ y. inl (omega (arith, y .left))) (λ y. inr (y .1 .taken)) (c .before .before .before .before .loop-test .came)) (p .0) (c .before .before .set-node .ensures) (omega (arith, p .0 .at .here .weight .row .room, p .1 .1, g .going .kept .long))
 
 pub +thin-move+thin-wait-spec : {M : Type 1} → statement M
 +thin-move+thin-wait-spec =
