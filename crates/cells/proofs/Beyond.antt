@@ -1,6 +1,6 @@
 -- Whether a set has a cell of the board that another has not: row by row, by the words.
-use mathlib.Core.Path.{_≡_, sym, ap, subst, _∙_}
-use mathlib.Core.Bool.{Bool, true, false, not, _&&_}
+use mathlib.Core.Path.{_≡_, ap}
+use mathlib.Core.Bool.{true, false, not, _&&_}
 use mathlib.Core.Logic.{_≢_}
 use mathlib.Core.List.{List}
 use Prim.Native.Nat.{ℕ, zero, suc, _+_, _-_, _*_, _%_, _^_, _<_, _≤_}
@@ -11,13 +11,13 @@ use lib.Count.{trailingZeros}
 use lib.Dec.{T, not-T, T-not}
 use lib.ListN.{getD}
 use Rattle.rules.specs.declared.Board.{Board}
-use Rattle.rules.specs.Board.{On, cells, isCell, columnOf, rowOf, cellAt}
-use Rattle.rules.specs.Words.{any, upTo}
+use Rattle.rules.specs.Board.{On, cells, columnOf, rowOf, cellAt}
+use Rattle.rules.specs.Words.{upTo}
 use Rattle.rules.proofs.Tests.{true-of, false-of, both, fst, snd}
 use Rattle.rules.proofs.Lists.{any-some, some-any, in-up-to}
 use Rattle.rules.proofs.Places.{cell-range, cell-place, column-at, row-at, cell-at}
 use Rattle.cells.specs.Cells.{digit, held, someBeyond, Fits}
-use Rattle.cells.specs.Rows.{In, beyondRow}
+use Rattle.cells.specs.Rows.{beyondRow}
 use Rattle.cells.proofs.Digits.{one-shl, and-both, and-l, and-r, beyond-in, beyond-l, beyond-r, digit-zero}
 use Rattle.cells.proofs.Blocks.{word-in, word-out}
 use Rattle.cells.proofs.Held.{held-cell, held-in, in-held}

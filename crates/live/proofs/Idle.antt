@@ -3,19 +3,18 @@ use mathlib.Core.Path.{_≡_, refl, sym, ap, _∙_, subst}
 use mathlib.Core.Bool.{Bool, true, false, not, false≢true}
 use mathlib.Core.List.{List, [], _∷_}
 use mathlib.Core.Option.{none}
-use Prim.Native.Nat.{ℕ, suc, _+_, _-_, _<_, _≤_}
+use Prim.Native.Nat.{ℕ, _+_, _-_, _<_, _≤_}
 use native.Mathlib.Nat.{add-zero}
 use native.Mathlib.Omega.{arith}
 use Rattle.rules.specs.declared.Board.{Board}
 use Rattle.rules.specs.Board.{cells}
 use Rattle.rules.specs.Words.{_∈_, at-head, in-tail, total, oneIf}
 use Rattle.rules.specs.Tree.{Moves, noMoves, move, Wait, Sheet, everyWait}
-use Rattle.rules.specs.Written.{howManyMoves}
 use Rattle.rules.specs.Live.{idleUnder, idleAt, idleCount}
 use Rattle.rules.specs.Plain.{IsElusive, AllElusive}
 use Rattle.rules.proofs.Places.{range-cell}
 use Rattle.rules.proofs.Living.{one-at-most, FirstOn, two-live}
-use Rattle.nodes.specs.Nodes.{aWait, aMove, nodesOfMoves, many}
+use Rattle.nodes.specs.Nodes.{aWait, aMove, nodesOfMoves}
 use Rattle.nodes.specs.Table.{underIn, isMoveAt, WeighedOn, Each, SomeNode}
 use Rattle.nodes.specs.Order.{TreeNode, isMove, isWait, waitsAmong}
 use Rattle.nodes.proofs.Order.{waits-of-waits}
@@ -23,6 +22,7 @@ use Rattle.nodes.proofs.Trees.{move-first}
 use Rattle.nodes.proofs.Walk.{Walking, walking-starts, walking-again}
 use Rattle.fair.specs.Faults.{NodeAt, moveAt, waitAt, SomeTreeNode}
 use Rattle.fair.proofs.WhichKind.{move-is, of-move}
+use Rattle.fair.proofs.Rows.{many-moves}
 use Rattle.fair.proofs.Laid.{treeOf}
 use Rattle.fair.proofs.Adding.{Sum}
 use Rattle.live.specs.Looking.{NoneBefore, LookedAny, ForkOn, idleIn, ElusiveNode}
@@ -79,11 +79,6 @@ module _ {b : Board} {t : List ℕ} {i under next j : ℕ} {z : Common} {idle : 
 
 -- ---- of a node
 
-moves-many : (ms : Moves) → howManyMoves ms ≡ many (nodesOfMoves ms)
-unfolding howManyMoves many nodesOfMoves
-moves-many noMoves = refl
-moves-many (move line c ws ms) = ap suc (moves-many ms)
-
 module _ {b : Board} {t : List ℕ} {i : ℕ} where
   -- a move has none
   pub move-none : isMoveAt t i ≡ true → (n : TreeNode) → NodeAt b t i n → 0 ≡ idleIn n
@@ -93,7 +88,7 @@ module _ {b : Board} {t : List ℕ} {i : ℕ} where
   pub two-none : isMoveAt t i ≡ false → underIn t i ≤ 2 → (n : TreeNode) → NodeAt b t i n → ElusiveNode b n → 0 ≡ idleIn n
   two-none e p _ (moveAt {m} a g) k = absurd (false≢true (sym e ∙ move-is m a g))
   two-none e p _ (waitAt {w} a q g) k =
-      sym (two-live b (w .moves) (first-on (w .moves) (a .below)) (k .no-cell-in-all) (omega (arith, a .here .weight .row .under, moves-many (w .moves))))
+      sym (two-live b (w .moves) (first-on (w .moves) (a .below)) (k .no-cell-in-all) (omega (arith, a .here .weight .row .under, many-moves (w .moves))))
     where
       first-on : (ms : Moves) → Each (WeighedOn b t) aMove (i + 1) (nodesOfMoves ms) → FirstOn b ms
       first-on noMoves r = tt

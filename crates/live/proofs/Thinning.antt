@@ -6,14 +6,14 @@ use mathlib.Core.Option.{none}
 use Prim.Native.Nat.{ℕ, suc, _+_, _-_, _*_, _<_, _≤_}
 use native.Mathlib.Omega.{arith}
 use lib.Dec.{T}
-use lib.ListN.{length, getD}
+use lib.ListN.{length}
 use Rattle.rules.specs.declared.Board.{Board}
 use Rattle.rules.specs.Tree.{Waits, noWaits, wait, Moves, noMoves, move}
 use Rattle.rules.specs.Live.{Shared, andThis, isLive, living, livingAfter}
 use Rattle.rules.proofs.Tests.{holds-of, cond-yes, cond-no}
 use Rattle.nodes.specs.Nodes.{Nodes, noNodes, node, Kind, aWait, aMove, many, size, nodesOfWaits, nodesOfMoves}
-use Rattle.nodes.specs.Table.{cellIn, underIn, endIn, withNode, Each, nothing, first, Row, Stand, WeighedOn, At, SomeNode}
-use Rattle.nodes.proofs.Table.{each-map, at-map, on-row, Agree, agree-within, row-agree, weighed-row-agree, stand-agree, stored-row, stored, node-end}
+use Rattle.nodes.specs.Table.{cellIn, underIn, endIn, withNode, Each, nothing, first, Stand, WeighedOn, At, SomeNode}
+use Rattle.nodes.proofs.Table.{each-map, at-map, Agree, agree-within, agree-then, row-agree, weighed-row-agree, stand-agree, stored-row, stored, node-end}
 use Rattle.nodes.proofs.Walk.{Walking, walking-starts, walking-again, walking-ends}
 use Rattle.live.specs.Looking.{NoneBefore, LookedAny}
 use Rattle.live.specs.Thinning.{Within, MovedUp, StandsTo, MoveThinnedAny, WaitThinnedAny}
@@ -47,9 +47,6 @@ agree-before from a = record { long = a .long; same = λ m lo hi. a .before m hi
 
 agree-after : {t v : List ℕ} {to next : ℕ} (from end : ℕ) → next ≤ from → Within t v to next → Agree t v from end
 agree-after from end p a = record { long = a .long; same = λ m lo hi. a .after m (omega arith) }
-
-agree-then : {t v w : List ℕ} {from to : ℕ} → Agree t v from to → Agree v w from to → Agree t w from to
-agree-then a d = record { long = d .long ∙ a .long; same = λ m lo hi. d .same m lo hi ∙ a .same m lo hi }
 
 rows-agree : {b : Board} {t v : List ℕ} {k : Kind} {i : ℕ} {n : Nodes} → Agree t v i (i + size n) → Each (WeighedOn b t) k i n → Each (WeighedOn b v) k i n
 rows-agree a s = each-map (λ k j c u from to r. record { weight = weighed-row-agree a from (omega arith) (r .weight); on = r .on; celled = r .celled }) s

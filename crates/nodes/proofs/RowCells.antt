@@ -1,7 +1,7 @@
 -- The cells of a node stand in its rows.
-use mathlib.Core.Path.{_≡_, refl, sym, subst, subst⁻¹, _∙_}
-use mathlib.Core.Logic.{_⊎_, inl, inr, ⊎-elim}
-use mathlib.Core.Bool.{Bool, false, _||_}
+use mathlib.Core.Path.{_≡_, sym, subst, subst⁻¹, _∙_}
+use mathlib.Core.Logic.{_⊎_, ⊎-elim}
+use mathlib.Core.Bool.{false, _||_}
 use mathlib.Core.List.{List}
 use Prim.Native.Nat.{ℕ, _+_, _*_, _<_, _≤_}
 use native.Mathlib.Decide.{decLt, ℕ-discrete}
@@ -14,7 +14,7 @@ use Rattle.rules.specs.Board.{cells}
 use Rattle.rules.proofs.Tests.{holds-of, same-test, left, right, cases}
 use Rattle.cells.specs.Cells.{held, StandsIn, RowsHold, HeldInRows}
 use Rattle.nodes.specs.Nodes.{Nodes, alone, Kind, aWait, aMove, other, size, named, inNodes, inNode}
-use Rattle.nodes.specs.Table.{cellIn, endIn, Celled, WeighedOn, Each, nothing, first, At, SomeNode}
+use Rattle.nodes.specs.Table.{cellIn, endIn, Celled, WeighedOn, Each, nothing, first, SomeNode}
 use Rattle.nodes.specs.Collecting.{CellsAny}
 
 wider : {t : List ℕ} {i j i′ j′ x : ℕ} → i′ ≤ i → j ≤ j′ → StandsIn t i j x → StandsIn t i′ j′ x

@@ -41,6 +41,9 @@ pub record Agree (t v : List ℕ) (from to : ℕ) : Type 0 where
 pub agree-within : {t v : List ℕ} {from to from′ to′ : ℕ} → from ≤ from′ → to′ ≤ to → Agree t v from to → Agree t v from′ to′
 agree-within p q a = record { long = a .long; same = λ m lo hi. a .same m (omega arith) (omega arith) }
 
+pub agree-then : {t v w : List ℕ} {from to : ℕ} → Agree t v from to → Agree v w from to → Agree t w from to
+agree-then a d = record { long = d .long ∙ a .long; same = λ m lo hi. d .same m lo hi ∙ a .same m lo hi }
+
 pub row-agree : {t v : List ℕ} {from to : ℕ} {k : Kind} {i c : ℕ} {u : Nodes} → Agree t v from to → from ≤ i → i < to → Row t k i c u → Row v k i c u
 row-agree a p q r =
     record {

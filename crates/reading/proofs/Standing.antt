@@ -18,7 +18,7 @@ use Rattle.rules.proofs.Reading.{NodeRead, node-read}
 use Rattle.nodes.specs.Nodes.{Nodes, noNodes, node, many, size, nodesOfWaits, nodesOfMoves}
 use Rattle.nodes.specs.Nodes as N
 use Rattle.nodes.specs.Table.{withNode, Row, Each, nothing, first, At, Stand}
-use Rattle.nodes.proofs.Table.{Agree, agree-within, row-agree, stand-agree, stored-row, stored-before}
+use Rattle.nodes.proofs.Table.{Agree, agree-within, agree-then, row-agree, stand-agree, stored-row, stored-before}
 use Rattle.rules.specs.declared.LineKind.{LineKind}
 use Rattle.rules.specs.declared.LineKind.the-variants as K
 use Rattle.reading.specs.Storing.{Stored, storeAll, storeUnder, storeNode}
@@ -31,9 +31,6 @@ pub record Fine (s : Spot) (t : List ℕ) : Type 0 where
 
 agree-refl : (t : List ℕ) (from to : ℕ) → Agree t t from to
 agree-refl t from to = record { long = refl; same = λ m lo hi. refl }
-
-agree-both : {t u v : List ℕ} {from to : ℕ} → Agree t u from to → Agree u v from to → Agree t v from to
-agree-both a b = record { long = b .long ∙ a .long; same = λ m lo hi. b .same m lo hi ∙ a .same m lo hi }
 
 -- a node that was stored: it stands there with all under it, and what stood before it stays
 pub record NodeStored (k : N.Kind) (t : List ℕ) (i c : ℕ) (u : Nodes) (after : Spot) (s : Stored) : Type 0 where
@@ -87,7 +84,7 @@ module _ {X : Type 0} (k : N.Kind) (cell : X → ℕ) (under : X → Nodes) wher
             (stand-agree (agree-within (omega arith) (omega (arith, a .next-is)) b) (a .stands .below))
             (subst (λ (i : ℕ). Each (Row (st .table)) k i (nodesOf (y .0))) (a .next-is) (h .0 .stand));
         next-is = unfold size in omega (arith, h .0 .next-is, a .next-is);
-        before = agree-both (a .before) (agree-within (omega arith) (omega (arith, a .next-is)) (h .0 .before));
+        before = agree-then (a .before) (agree-within (omega arith) (omega (arith, a .next-is)) (h .0 .before));
         fine = h .0 .fine;
       },
       ap suc (h .1),
@@ -122,7 +119,7 @@ under-stored above t s c n u next after st f few e m a =
             below = subst (λ (i : ℕ). Each (Row (st .table)) (N.other above) i u) e (a .stand);
           };
       next-is = omega (arith, a .next-is, e);
-      before = agree-both (stored-before t (s .nodes) c n 0 (s .nodes) (omega arith)) (agree-within (omega arith) (omega (arith, e)) b);
+      before = agree-then (stored-before t (s .nodes) c n 0 (s .nodes) (omega arith)) (agree-within (omega arith) (omega (arith, e)) b);
       fine = a .fine;
     }
 

@@ -1,7 +1,7 @@
 -- The reply to a request: a line of numbers.
 use Prim.Native.Nat.{ℕ}
 use mathlib.Core.Bool.{Bool, true, false}
-use mathlib.Core.List.{List, [], _∷_}
+use mathlib.Core.List.{List, _∷_}
 use lib.ListN.{length, getD, drop}
 use Rattle.rules.specs.Words.{oneIf}
 use Rattle.rules.specs.Text.{Bytes}

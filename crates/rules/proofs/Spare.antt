@@ -9,24 +9,23 @@ use native.Mathlib.Omega.{arith}
 use borrow.Author.Tests.{ltb-false, le-ltb}
 use lib.Dec.{T, ltb}
 use Rattle.rules.specs.Sizes.{mostOutcomes}
-use Rattle.rules.specs.Words.{_∈_, in-tail, among}
-use Rattle.rules.specs.Joining.{Joins}
+use Rattle.rules.specs.Words.{_∈_, in-tail}
 use Rattle.rules.specs.Text.{Bytes}
 use Rattle.rules.specs.Tree.{Waits, noWaits, wait, Sheet, atStart, everyMove, everyWait}
 use Rattle.rules.specs.Reading.{Result, refused, got}
 use Rattle.rules.specs.Fair.{notElusive, firstOnSetUp, firstNotApart, firstTwice, firstNotElusive}
-use Rattle.rules.specs.Live.{living, idleCount}
+use Rattle.rules.specs.Live.{living}
 use Rattle.rules.specs.Outcomes.{outcomesOfWaits, outcomesFrom, outcomes, outcomeCount}
 use Rattle.rules.specs.Choice.{Choice}
 use Rattle.rules.specs.Answering.{answer, Game, start, next, answeredBy, answered}
 use Rattle.rules.specs.Holder.{liveChoice}
 use Rattle.rules.specs.Verdict.{told}
 use Rattle.rules.specs.Entries.{_>>=_, refuseIf, refuseFault, refuseUnjoined, read, fairBy, fair, satisfyingBy, satisfying, accepted}
-use Rattle.rules.specs.Spare.{SameElusive, gameAfter, LiveAnswers, outcomesOverAll, countOverAll, acceptedOverAll, StillAccepted, SameRefusal, SameWithoutSpare, SparedAsBefore}
+use Rattle.rules.specs.Spare.{SameElusive, gameAfter, LiveAnswers, outcomesOverAll, countOverAll, acceptedOverAll, SameWithoutSpare, SparedAsBefore}
 use Rattle.rules.specs.declared.Verdict.{Verdict}
 use Rattle.rules.specs.declared.Verdict.the-variants.{OnSetUp, NotApart, SameBranch, NotElusive, TooManyOutcomes}
 use Rattle.rules.proofs.Steps.{some-inj, not-refused, refused-inj}
-use Rattle.rules.proofs.EachOutcome.{Each, each-in, each-out, each-map, each-unmap}
+use Rattle.rules.proofs.EachOutcome.{each-in, each-out, each-map, each-unmap}
 use Rattle.rules.proofs.Given.{Walked, all, first, walked, all-joined}
 use Rattle.rules.proofs.Opening.{FairWaits, waitsIn, fair-opened}
 use Rattle.rules.proofs.Live.{elusive-same}
