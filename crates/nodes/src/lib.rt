@@ -178,16 +178,15 @@ pub fn collect_move(t: &[u32], board: Board, i: usize, set: Cells) -> Collected
 {
     let under = under_at(t, i);
     let cell = cell_at(t, i);
-    let mut cells = with_stone(set, board, cell);
-    let mut next = i + 1;
+    let cells = with_stone(set, board, cell);
+    let next = i + 1;
+    let mut so_far = Collected { cells, next };
     let mut j = 0;
     while j < under {
-        let w = collect_wait(t, board, next, cells);
-        cells = w.cells;
-        next = w.next;
+        so_far = collect_wait(t, board, so_far.next, so_far.cells);
         j += 1;
     }
-    Collected { cells, next }
+    so_far
 }
 
 // The cells of the wait at node i, those under it, added to a set.
@@ -197,16 +196,14 @@ pub fn collect_wait(t: &[u32], board: Board, i: usize, set: Cells) -> Collected
     ensures { λ r. ⌜ CollectsAny aWait board (now (t .entry)) i (set .rows) (r .cells .rows) (r .next) ⌝ }
 {
     let under = under_at(t, i);
-    let mut cells = set;
-    let mut next = i + 1;
+    let next = i + 1;
+    let mut so_far = Collected { cells: set, next };
     let mut j = 0;
     while j < under {
-        let m = collect_move(t, board, next, cells);
-        cells = m.cells;
-        next = m.next;
+        so_far = collect_move(t, board, so_far.next, so_far.cells);
         j += 1;
     }
-    Collected { cells, next }
+    so_far
 }
 
 // The cells of node i, its own and those under it, which stand in its rows one after another.

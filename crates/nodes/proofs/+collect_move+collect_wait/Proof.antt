@@ -48,16 +48,16 @@ abbrev W : ℕ → w-lts.Claims
 W t = (under-at-reads.Asked, under-at-reads.Learnt, m-below t, collect-move.Post)
 
 abbrev m-Inv : m-lts.InvT-loop
-m-Inv t board i under cell cells₀ next₀ j₀ cells next j = Collecting aMove board t (cells₀ .rows) (cells .rows) i under next j
+m-Inv t board i under cell next so-far₀ j₀ so-far j = Collecting aMove board t (so-far₀ .cells .rows) (so-far .cells .rows) i under (so-far .next) j
 
 abbrev m-μ : m-lts.MeasureT-loop
-m-μ t board i under cell cells₀ next₀ j₀ cells next j = under - j
+m-μ t board i under cell next so-far₀ j₀ so-far j = under - j
 
 abbrev w-Inv : w-lts.InvT-loop
-w-Inv t board i under cells₀ next₀ j₀ cells next j = Collecting aWait board t (cells₀ .rows) (cells .rows) i under next j
+w-Inv t board i under next so-far₀ j₀ so-far j = Collecting aWait board t (so-far₀ .cells .rows) (so-far .cells .rows) i under (so-far .next) j
 
 abbrev w-μ : w-lts.MeasureT-loop
-w-μ t board i under cells₀ next₀ j₀ cells next j = under - j
+w-μ t board i under next so-far₀ j₀ so-far j = under - j
 
 module _ (t : ℕ) where
   m-under-at-requires : m-lts.Need-under-at-requires (M t) (m-at t) collect-move.Post m-Inv m-μ
@@ -90,7 +90,7 @@ module _ (t : ℕ) where
   m-loop-less c = omega arith
 
   m-loop-again : m-lts.Need-loop-again (M t) (m-at t) collect-move.Post m-Inv m-μ
-  m-loop-again c = collecting-again (c .before .before .before .loop .inv) (omega arith) (c .before .before .before .before .before .before .before .before .pre .1 .1) _ _ (c .before .collect-wait .ensures)
+  m-loop-again c = collecting-again (c .before .before .loop .inv) (omega arith) (c .before .before .before .before .before .before .before .pre .1 .1) _ _ (c .collect-wait .ensures)
 
   m-returns : m-lts.Need-returns (M t) (m-at t) collect-move.Post m-Inv m-μ
   m-returns c =
@@ -121,7 +121,7 @@ module _ (t : ℕ) where
   w-loop-less c = omega arith
 
   w-loop-again : w-lts.Need-loop-again (W t) (w-at t) collect-wait.Post w-Inv w-μ
-  w-loop-again c = collecting-again (c .before .before .before .loop .inv) (omega arith) (c .before .before .before .before .before .before .pre .1 .1) _ _ (c .before .collect-move .ensures)
+  w-loop-again c = collecting-again (c .before .before .loop .inv) (omega arith) (c .before .before .before .before .before .pre .1 .1) _ _ (c .collect-move .ensures)
 
   w-returns : w-lts.Need-returns (W t) (w-at t) collect-wait.Post w-Inv w-μ
   w-returns c =
