@@ -35,7 +35,7 @@ enum sorbitanque_verdict {
   SORBITANQUE_NOT_APART = 10,
   /* 11: The sheet is not elusive; the line is the first faulty wait's and the cell its smallest faulty cell. */
   SORBITANQUE_NOT_ELUSIVE = 11,
-  /* 12: The sheet has more than 65,536 outcomes. */
+  /* 12: The sheet has more than 65,536 outcomes of live moves. */
   SORBITANQUE_TOO_MANY_OUTCOMES = 12,
   /* 13: An outcome does not join; the index is the smallest number of such an outcome. */
   SORBITANQUE_NOT_JOINED = 13,
@@ -94,7 +94,7 @@ enum {
    - What a function may write (room, workspace, details) overlaps nothing else that it is given. Sheet and moves are only read, and may overlap.
    - No function keeps anything between calls or has memory of its own but the stack: calls may run side by side, in threads or in a signal handler, as
      long as each has a room, a workspace and details of its own.
-   - Of the nine sheets measured (docs/FIGURES.md), one of depth 127 and one with 141 choices in an outcome among them, none took a call more than 68 KB of
+   - Of the ten sheets measured (docs/FIGURES.md), one of depth 127 and one with 141 choices in an outcome among them, none took a call more than 68 KB of
      stack; no bound is proved. Give it 128 KB.
    - All details, seven or in counts nine, are written by every call; line, cell and index are 0 where the verdict's sentence does not name them.
    - The first 8,192 numbers of the workspace are 0 after every call and the rest as it was; after verdict 1 all of it is as it was.
