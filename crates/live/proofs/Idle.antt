@@ -20,12 +20,12 @@ use Rattle.nodes.specs.Order.{TreeNode, isMove, isWait, waitsAmong}
 use Rattle.nodes.proofs.Order.{waits-of-waits}
 use Rattle.nodes.proofs.Trees.{move-first}
 use Rattle.nodes.proofs.Walk.{Walking, walking-starts, walking-again}
-use Rattle.fair.specs.Faults.{NodeAt, moveAt, waitAt, SomeTreeNode}
+use Rattle.fair.specs.Faults.{WaitAt, NodeAt, moveAt, waitAt, SomeTreeNode}
 use Rattle.fair.proofs.WhichKind.{move-is, of-move}
 use Rattle.fair.proofs.Rows.{many-moves}
 use Rattle.fair.proofs.Laid.{treeOf}
 use Rattle.fair.proofs.Adding.{Sum}
-use Rattle.live.specs.Looking.{NoneBefore, LookedAny, ForkOn, idleIn, ElusiveNode}
+use Rattle.live.specs.Looking.{NoneBefore, LookedAny, idleIn, ElusiveNode}
 use Rattle.live.specs.declared.Common.{Common}
 use Rattle.live.specs.declared.Looked.{Looked}
 use Rattle.live.proofs.Asking.{Statement, Asked, asked-all, asked-again, Stops, asked-stop}
@@ -72,7 +72,7 @@ module _ {b : Board} {t : List ℕ} {i under next j : ℕ} {z : Common} {idle : 
         few = omega (arith, w .few, e, one-at-most (not (r .live)));
       }
 
-  pub counting-done : Stops z under j → (v : Wait) → ForkOn b t i v → idle + (under - j) ≡ idleAt v
+  pub counting-done : Stops z under j → (v : Wait) → WaitAt b t i v → idle + (under - j) ≡ idleAt v
   counting-done p v a =
       let d = asked-stop (w .walk) p (v .moves) a in
       omega (arith, d .holds, d .all-idle)
@@ -104,7 +104,7 @@ module _ {b : Board} {t : List ℕ} {i : ℕ} where
       go (moveAt {m} a g) = absurd (false≢true (sym e ∙ move-is m a g))
       go (waitAt {w} a q g) = record { cell = 0; under = nodesOfMoves (w .moves); at = a }
 
-  pub wait-some : {r : ℕ} → isMoveAt t i ≡ false → ((w : Wait) → ForkOn b t i w → r ≡ idleAt w) → (n : TreeNode) → NodeAt b t i n → r ≡ idleIn n
+  pub wait-some : {r : ℕ} → isMoveAt t i ≡ false → ((w : Wait) → WaitAt b t i w → r ≡ idleAt w) → (n : TreeNode) → NodeAt b t i n → r ≡ idleIn n
   wait-some e h _ (moveAt {m} a g) = absurd (false≢true (sym e ∙ move-is m a g))
   wait-some e h _ (waitAt {w} a q g) = h w a
 

@@ -7,12 +7,12 @@ use Prim.Native.Nat.{ℕ, _+_, _≤_}
 use lib.Dec.{T}
 use Rattle.rules.specs.declared.Board.{Board}
 use Rattle.rules.specs.Words.{among}
-use Rattle.rules.specs.Tree.{Waits, Wait, Sheet}
+use Rattle.rules.specs.Tree.{Waits, Sheet}
 use Rattle.rules.specs.Fair.{inMove}
 use Rattle.rules.specs.Live.{Shared, andThis, isLive, idleAt}
 use Rattle.rules.specs.Plain.{IsElusive, AllElusive}
 use Rattle.cells.specs.Cells.{held}
-use Rattle.nodes.specs.Nodes.{Nodes, aWait, aMove, nodesOfWaits, nodesOfMoves, size}
+use Rattle.nodes.specs.Nodes.{Nodes, aMove, nodesOfWaits, size}
 use Rattle.nodes.specs.Table.{WeighedOn, At}
 use Rattle.nodes.specs.Order.{TreeNode, isMove, isWait}
 use Rattle.nodes.specs.Sheets.{HoldsSheet}
@@ -61,10 +61,6 @@ pub record LookedAny (b : Board) (t : List ℕ) (i : ℕ) (z : Common) (r : Look
   pub tells : (before : Shared) (c : ℕ) (ws : Waits) → CommonIs b z before → At (WeighedOn b t) aMove i c (nodesOfWaits ws) → Told b before c ws r
 
 -- ---- a wait, a node and a sheet
-
--- the wait stands weighed at node i
-abbrev pub ForkOn : Board → List ℕ → ℕ → Wait → Type 0
-ForkOn b t i w = At (WeighedOn b t) aWait i 0 (nodesOfMoves (w .moves))
 
 -- how many moves right under a node aren't live
 abbrev pub idleIn : TreeNode → ℕ

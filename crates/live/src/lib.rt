@@ -12,8 +12,8 @@ ghost use Rattle.nodes.specs.Nodes.{aWait, aMove};
 ghost use Rattle.nodes.specs.Order.{TreeNode};
 ghost use Rattle.nodes.specs.Table.{WeighedOn, SomeNode};
 ghost use Rattle.nodes.specs.Sheets.{HoldsSheet, HoldsLiving, SomeSheet};
-ghost use Rattle.fair.specs.Faults.{NodeAt, SomeTreeNode};
-ghost use Rattle.live.specs.Looking.{NoneBefore, LivesAny, NarrowedAny, LookedAny, ForkOn, idleIn, ElusiveNode, SomeElusive};
+ghost use Rattle.fair.specs.Faults.{WaitAt, NodeAt, SomeTreeNode};
+ghost use Rattle.live.specs.Looking.{NoneBefore, LivesAny, NarrowedAny, LookedAny, idleIn, ElusiveNode, SomeElusive};
 ghost use Rattle.live.specs.Thinning.{MoveThinnedAny, WaitThinnedAny, KeepsLive};
 use cells::Cells;
 use nodes::cell_at;
@@ -101,7 +101,7 @@ fn look(t: &[u32], board: Board, i: usize, common: Common) -> Looked
 fn idle_at(t: &[u32], board: Board, i: usize) -> usize
     requires fits { ⌜ Fits board ⌝ }
     requires stands { ⌜ SomeNode (WeighedOn board (now t)) aWait i ⌝ }
-    ensures { λ r. ⌜ ((w : Wait) → ForkOn board (now (t .entry)) i w → r ≡ idleAt w) ⌝ }
+    ensures { λ r. ⌜ ((w : Wait) → WaitAt board (now (t .entry)) i w → r ≡ idleAt w) ⌝ }
 {
     let under = under_at(t, i);
     let mut common = Common::none();

@@ -171,7 +171,7 @@ pub fn with_stone(set: Cells, board: Board, cell: usize) -> Cells
 }
 
 // The cells of the move at node i, its own and those under it, added to a set.
-pub fn collect_move(t: &[u32], board: Board, i: usize, set: Cells) -> Collected
+fn collect_move(t: &[u32], board: Board, i: usize, set: Cells) -> Collected
     requires fits { ⌜ Fits board ⌝ }
     requires stands { ⌜ SomeNode (RowOn board (now t)) aMove i ⌝ }
     ensures { λ r. ⌜ CollectsAny aMove board (now (t .entry)) i (set .rows) (r .cells .rows) (r .next) ⌝ }
