@@ -1,6 +1,6 @@
--- The faulty cells of one node: the loop over a move's waits that tallies their cells, and the loop over a wait's moves that meets theirs.
+-- The faulty cells of a move: the loop over its waits that tallies their cells.
 use mathlib.Core.Path.{_≡_, refl, sym, ap, ap₂, _∙_}
-use mathlib.Core.Bool.{Bool, true, false, _&&_, _||_, and-assoc, and-true}
+use mathlib.Core.Bool.{Bool, true, false, _&&_, _||_}
 use Prim.Native.Nat.{ℕ, zero, suc, _+_, _<_, _≤_}
 use native.Mathlib.Omega.{arith}
 use mathlib.Core.List.{List}
@@ -8,34 +8,25 @@ use lib.Dec.{eqb, leb}
 use borrow.Author.Tests.{le-leb}
 use Rattle.rules.specs.declared.Board.{Board}
 use Rattle.rules.specs.Words.{oneIf}
-use Rattle.rules.specs.Tree.{Waits, noWaits, wait, Moves, noMoves, move, Move}
-use Rattle.rules.specs.Fair.{inWaits, inMoves, inMove, holding, inEvery, notApart, notElusive}
+use Rattle.rules.specs.Tree.{Waits, noWaits, wait, Move}
+use Rattle.rules.specs.Fair.{inWaits, inMoves, holding, notApart}
 use Rattle.cells.specs.Cells.{held}
-use Rattle.nodes.specs.Nodes.{Nodes, noNodes, node, Kind, aWait, aMove, nodesOfWaits, nodesOfMoves, inNode}
-use Rattle.nodes.specs.Table.{underIn, endIn, RowOn, WeighedOn, At, SomeNode}
-use Rattle.nodes.specs.Collecting.{CollectsAny, CellsAny}
-use Rattle.nodes.proofs.Trees.{waits-cells, moves-cells}
-use Rattle.nodes.proofs.Walk.{Walking, walking-starts, walking-child, walking-again, walking-ends}
-use Rattle.fair.specs.Faults.{MoveAt, FoundAtMove, FoundAtWait, OneMoreSet}
+use Rattle.nodes.specs.Nodes.{Nodes, noNodes, node, Kind, aWait, aMove, nodesOfWaits, inNode}
+use Rattle.nodes.specs.Table.{underIn, RowOn, At, SomeNode}
+use Rattle.nodes.specs.Collecting.{CollectsAny}
+use Rattle.nodes.proofs.Trees.{moves-cells}
+use Rattle.nodes.proofs.Walk.{Walking, walking-starts, walking-again, walking-ends}
+use Rattle.fair.specs.Faults.{MoveAt, FoundAtMove, OneMoreSet}
 
--- in how many of the nodes x is found, and whether in every one
+-- in how many of the nodes x is found
 unfoldable pub holdingIn : Kind → Nodes → ℕ → ℕ
 holdingIn k noNodes x = 0
 holdingIn k (node c u a) x = oneIf (inNode k c u x) + holdingIn k a x
-
-unfoldable pub everyIn : Kind → Nodes → ℕ → Bool
-everyIn k noNodes x = true
-everyIn k (node c u a) x = inNode k c u x && everyIn k a x
 
 waits-holding : (ws : Waits) (x : ℕ) → holdingIn aWait (nodesOfWaits ws) x ≡ holding ws x
 unfolding holdingIn holding nodesOfWaits
 waits-holding noWaits x = refl
 waits-holding (wait line ms ws) x = ap₂ (λ (y : Bool) (n : ℕ). oneIf y + n) (moves-cells ms x) (waits-holding ws x)
-
-moves-every : (ms : Moves) (x : ℕ) → everyIn aMove (nodesOfMoves ms) x ≡ inEvery ms x
-unfolding everyIn inEvery inMove nodesOfWaits
-moves-every noMoves x = refl
-moves-every (move line c ws ms) x = ap₂ (λ (y z : Bool). (eqb x c || y) && z) (waits-cells ws x) (moves-every ms x)
 
 none-more : (n : ℕ) → 0 + n ≡ n
 none-more n = omega arith
@@ -119,60 +110,3 @@ module _ {b : Board} {t : List ℕ} {cell : ℕ} {once twice : List ℕ} {i unde
       ∙ d .1 .whole x q
       ∙ ap₂ (λ (c k : ℕ). crowded false (eqb x c) k) (own m n) (waits-holding (m .waits) x)
       ∙ ap (λ (y : Bool). (eqb x (m .cell) && y) || leb 2 (holding (m .waits) x)) (some-holding (m .waits) x)
-
--- ---- at a wait
-
--- the cells so far, and those that are in all that is left, are those that are in every one
-pub record Met (b : Board) (rows : List ℕ) (all rest : Nodes) : Type 0 where
-  pub whole : (x : ℕ) → 1 ≤ x → (held b rows x && everyIn aMove rest x) ≡ everyIn aMove all x
-
-abbrev pub Meeting : Board → List ℕ → List ℕ → (i under next j : ℕ) → Type 0
-Meeting b t rows i under next j = Walking (WeighedOn b t) (WeighedOn b t) aWait i under next j (Met b rows)
-
--- before the first move
-pub record Whole (all rest : Nodes) : Type 0 where
-  pub same : (x : ℕ) → everyIn aMove rest x ≡ everyIn aMove all x
-
-module _ (b : Board) (t : List ℕ) (i under : ℕ) (e : under ≡ underIn t i) (p : 0 < under) (n : SomeNode (WeighedOn b t) aWait i) where
-  unmet : Walking (WeighedOn b t) (WeighedOn b t) aWait i under (i + 1) 0 Whole
-  unmet = walking-starts (λ c u r. omega (arith, r .weight .row .under)) (λ u. record { same = λ x. refl })
-
-  pub first-move-stands : SomeNode (WeighedOn b t) aMove (i + 1)
-  first-move-stands = walking-child unmet p n
-
-  -- the cells of the first move
-  pub meeting-starts : (rows : List ℕ) {next : ℕ} → CellsAny b t (i + 1) rows → next ≡ endIn t (i + 1) → Meeting b t rows i under next 1
-  unfolding everyIn
-  meeting-starts rows h z =
-      walking-again unmet p n (λ c v m.
-      record {
-        next-is = z ∙ m .here .weight .end;
-        each = λ a st. st;
-        holds = λ u a f. record { whole = λ x q. ap (λ (y : Bool). y && everyIn aMove a x) (h aMove c v m x q) ∙ f .same x };
-      })
-
-module _ {b : Board} {t : List ℕ} {rows : List ℕ} {i under next j : ℕ} (w : Meeting b t rows i under next j) where
-  -- met with the cells of one more move
-  pub meeting-again : j < under → SomeNode (WeighedOn b t) aWait i → (more rows′ : List ℕ) {to : ℕ}
-      → CellsAny b t next more → to ≡ endIn t next → ((x : ℕ) → held b rows′ x ≡ (held b rows x && held b more x))
-      → Meeting b t rows′ i under to (j + 1)
-  unfolding everyIn
-  meeting-again p n more rows′ h z d =
-      walking-again w p n (λ c v m.
-      record {
-        next-is = z ∙ m .here .weight .end;
-        each = λ a st. st;
-        holds = λ u a f. record {
-          whole = λ x q.
-              ap (λ (y : Bool). y && everyIn aMove a x) (d x ∙ ap (λ (y : Bool). held b rows x && y) (h aMove c v m x q))
-              ∙ and-assoc (held b rows x) (inNode aMove c v x) (everyIn aMove a x)
-              ∙ f .whole x q;
-        };
-      })
-
-  -- met with all
-  pub meeting-done : under ≤ j → FoundAtWait notElusive b t i rows
-  unfolding everyIn notElusive
-  meeting-done p v n x q =
-      let d = walking-ends w p 0 (nodesOfMoves (v .moves)) n in
-      sym (and-true (held b rows x)) ∙ d .1 .whole x q ∙ moves-every (v .moves) x

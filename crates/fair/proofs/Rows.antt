@@ -39,7 +39,7 @@ unfolding many nodesOfWaits howManyWaits
 many-waits noWaits = refl
 many-waits (wait line ms ws) = ap suc (many-waits ws)
 
-pub many-moves : (ms : Moves) → many (nodesOfMoves ms) ≡ howManyMoves ms
+many-moves : (ms : Moves) → many (nodesOfMoves ms) ≡ howManyMoves ms
 unfolding many nodesOfWaits howManyMoves
 many-moves noMoves = refl
 many-moves (move line c ws ms) = ap suc (many-moves ms)

@@ -23,12 +23,10 @@ use Rattle.nodes.specs.Order.{TreeNode, isMove, isWait, movesAmong, waitsAmong}
 use Rattle.nodes.specs.Sheets.{HoldsSheet, SomeSheet}
 use Rattle.nodes.proofs.Order.{waits-length, moves-of-waits, waits-of-waits}
 use Rattle.nodes.proofs.Sheets.{sheet-end}
-use Rattle.fair.specs.Faults.{notFree, firstBy, firstFree, atMoves, atWaits, faultyBy, lineOf, NodeAt, SomeTreeNode, LeastAt, FaultFound}
+use Rattle.fair.specs.Faults.{notFree, firstFree, atMoves, atWaits, lineOf, NodeAt, SomeTreeNode, LeastAt, FaultFound}
 use Rattle.fair.specs.Twice.{twiceBy}
 use Rattle.fair.specs.declared.Fault as answered
 use Rattle.fair.specs.declared.Fault.the-variants.{At, Nothing}
-use Rattle.fair.specs.declared.Test.{Test}
-use Rattle.fair.specs.declared.Test.the-variants.{Apart, Elusive}
 use Rattle.fair.proofs.WhichKind.{none-smallest}
 use Rattle.fair.proofs.Laid.{Laid, laidNode, treeOf, sheet-laid}
 
@@ -76,10 +74,13 @@ tree-waits : (at : TreeNode → Option Fault) (of : Wait → Option Fault) → (
 unfolding everyWait waitsAmong
 tree-waits at of here other s = ap (firstSome of) (sym (waits-of-waits (s .root .waits))) ∙ sym (waits-first at of here other (treeOf s))
 
-pub tree-first : (test : Test) (s : Sheet) → firstBy test s ≡ firstSome (leastFault (faultyBy test) (s .board)) (treeOf s)
-unfolding firstNotApart firstNotElusive firstFault
-tree-first Apart s = tree-moves notApart s
-tree-first Elusive s = tree-waits (leastFault (atWaits notElusive) (s .board)) _ (λ w. refl) (λ m. not-asked (s .board) (m .line)) s
+pub tree-apart : (s : Sheet) → firstNotApart s ≡ firstSome (leastFault (atMoves notApart) (s .board)) (treeOf s)
+unfolding firstNotApart
+tree-apart s = tree-moves notApart s
+
+pub tree-elusive : (s : Sheet) → firstNotElusive s ≡ firstSome (leastFault (atWaits notElusive) (s .board)) (treeOf s)
+unfolding firstNotElusive firstFault
+tree-elusive s = tree-waits (leastFault (atWaits notElusive) (s .board)) _ (λ w. refl) (λ m. not-asked (s .board) (m .line)) s
 
 pub tree-free : (stones : ℕ → Bool) (s : Sheet) → firstFree stones s ≡ firstSome (leastFault (atMoves (notFree stones)) (s .board)) (treeOf s)
 tree-free stones s = tree-moves (notFree stones) s

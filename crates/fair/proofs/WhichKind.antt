@@ -1,7 +1,7 @@
 -- Which kind of node stands at a node number: the first node is a move, and any other that has a cell.
 use mathlib.Core.Path.{_≡_, refl, sym, subst, _∙_}
 use mathlib.Core.Logic.{_≢_, ⊎-elim}
-use mathlib.Core.Bool.{Bool, true, false, true≢false, false≢true}
+use mathlib.Core.Bool.{Bool, true, false, _&&_, _||_, true≢false, false≢true}
 use Prim.Native.Nat.{ℕ, _+_, _*_, _<_, _≤_}
 use native.Mathlib.Nat.{eq-zero-or-pos}
 use native.Mathlib.Omega.{arith}
@@ -10,11 +10,11 @@ use lib.Dec.{T, eqb, eqb→eq}
 use lib.ListN.{length}
 use borrow.Author.Tests.{eq-eqb, ne-eqb}
 use Rattle.rules.specs.declared.Board.{Board}
-use Rattle.rules.specs.Tree.{Moves, noMoves, move, Wait, Move}
+use Rattle.rules.specs.Tree.{Waits, noWaits, wait, Moves, noMoves, move, Wait, Move}
 use Rattle.rules.specs.Words.{twice}
 use Rattle.rules.specs.Board.{isCell, smallest}
-use Rattle.rules.specs.Fair.{branches}
-use Rattle.rules.proofs.Tests.{holds-of, both, fst, snd}
+use Rattle.rules.specs.Fair.{inWaits, holding, notApart, branches}
+use Rattle.rules.proofs.Tests.{holds-of, both, fst, snd, cases}
 use Rattle.rules.proofs.Smallest.{smallest-is, smallest-zero}
 use Rattle.rules.proofs.Places.{cell-range}
 use Rattle.cells.specs.Cells.{held}
@@ -23,9 +23,8 @@ use Rattle.nodes.specs.Nodes.{aWait, aMove, nodesOfWaits, nodesOfMoves, many}
 use Rattle.nodes.specs.Table.{cellIn, underIn, RowOn, WeighedOn, At, SomeNode, isMoveAt}
 use Rattle.nodes.specs.Order.{TreeNode, isMove, isWait}
 use Rattle.nodes.proofs.Table.{at-map, on-row}
-use Rattle.fair.specs.Faults.{notFree, atMoves, atWaits, faultyBy, MoveAt, WaitAt, NodeAt, moveAt, waitAt, SomeTreeNode, FoundAtMove, FoundAtWait, LeastAt}
+use Rattle.fair.specs.Faults.{notFree, atMoves, atWaits, MoveAt, WaitAt, NodeAt, moveAt, waitAt, SomeTreeNode, FoundAtMove, LeastAt}
 use Rattle.fair.specs.Twice.{ForkAt, SomeFork, twiceBy}
-use Rattle.fair.specs.declared.Test.{Test}
 
 -- what a set holds is a cell
 pub held-cell : (b : Board) (rows : List ℕ) (x : ℕ) → held b rows x ≡ true → T (isCell b x)
@@ -35,6 +34,14 @@ held-cell b rows x e = fst (isCell b x) _ (holds-of e)
 -- no cell is the smallest of none
 pub none-smallest : (b : Board) → smallest b (λ x. false) ≡ 0
 none-smallest b = smallest-zero b (λ x. false) (λ x i h. h)
+
+-- no cell is faulty at a move with nothing under it
+none-under : (ws : Waits) → many (nodesOfWaits ws) ≡ 0 → (m : Move) → m .waits ≡ ws → (x : ℕ) → T (notApart m x) → ⊥
+unfolding notApart many nodesOfWaits inWaits holding
+none-under noWaits e m q x h =
+    let gone : notApart m x ≡ ((eqb x (m .cell) && false) || false) = rw q refl in
+    ⊎-elim (λ y. snd (eqb x (m .cell)) false y) (λ y. y) (cases (eqb x (m .cell) && false) false (subst T gone h))
+none-under (wait line ms ws) e m q x h = absurd (omega arith)
 
 module _ {b : Board} {t : List ℕ} {i : ℕ} where
   pub move-is : (m : Move) → At (WeighedOn b t) aMove i (m .cell) (nodesOfWaits (m .waits)) → (1 ≤ i → 1 ≤ m .cell) → isMoveAt t i ≡ true
@@ -78,20 +85,21 @@ module _ {b : Board} {t : List ℕ} {i : ℕ} where
       go (waitAt a p g) = a .here .weight .row .room
 
   -- by what is asked of moves alone, or of waits alone: the smallest cell found where such a node stands, and none where none does
-  module _ (rows : List ℕ) (cell : ℕ) (e : cell ≡ smallest b (held b rows)) where
-    pub least-move : (faulty : Move → ℕ → Bool) → isMoveAt t i ≡ true → FoundAtMove faulty b t i rows → LeastAt (atMoves faulty) b t i cell
-    least-move faulty k f =
-        of-move k (λ n. cell ≡ smallest b (atMoves faulty n)) (λ m a. e ∙ smallest-same b (held b rows) (faulty m) (λ x c. f m a x (cell-range b x c .0)))
-
-    pub least-wait : (faulty : Wait → ℕ → Bool) → isMoveAt t i ≡ false → FoundAtWait faulty b t i rows → LeastAt (atWaits faulty) b t i cell
-    least-wait faulty k f =
-        of-wait k (λ n. cell ≡ smallest b (atWaits faulty n)) (λ w a g. e ∙ smallest-same b (held b rows) (faulty w) (λ x c. f w a x (cell-range b x c .0)))
+  pub least-move : (rows : List ℕ) (cell : ℕ) → cell ≡ smallest b (held b rows) → (faulty : Move → ℕ → Bool) → isMoveAt t i ≡ true → FoundAtMove faulty b t i rows → LeastAt (atMoves faulty) b t i cell
+  least-move rows cell e faulty k f =
+      of-move k (λ n. cell ≡ smallest b (atMoves faulty n)) (λ m a. e ∙ smallest-same b (held b rows) (faulty m) (λ x c. f m a x (cell-range b x c .0)))
 
   pub none-wait : (faulty : Move → ℕ → Bool) → isMoveAt t i ≡ false → LeastAt (atMoves faulty) b t i 0
   none-wait faulty k = of-wait k (λ n. 0 ≡ smallest b (atMoves faulty n)) (λ w a g. sym (none-smallest b))
 
   pub none-move : (faulty : Wait → ℕ → Bool) → isMoveAt t i ≡ true → LeastAt (atWaits faulty) b t i 0
   none-move faulty k = of-move k (λ n. 0 ≡ smallest b (atWaits faulty n)) (λ m a. sym (none-smallest b))
+
+  -- a move with nothing under it is apart
+  pub leaf-apart : underIn t i ≡ 0 → isMoveAt t i ≡ true → LeastAt (atMoves notApart) b t i 0
+  leaf-apart z k =
+      of-move k (λ n. 0 ≡ smallest b (atMoves notApart n))
+      (λ m a. sym (smallest-zero b (notApart m) (λ x c h. none-under (m .waits) (sym (a .here .row .under) ∙ z) m refl x h)))
 
   -- a move's own cell with a stone on it, and one without; a wait has no cell
   module _ (rows : List ℕ) (cell : ℕ) (is : cell ≡ cellIn t i) where
@@ -130,7 +138,3 @@ module _ {b : Board} {t : List ℕ} {i : ℕ} where
   pub twice-wait : isMoveAt t i ≡ false → {r : Bool} → ((w : Wait) → ForkAt t i w → r ≡ twice (branches (w .moves))) → (n : TreeNode) → NodeAt b t i n → r ≡ twiceBy n
   twice-wait e h _ (moveAt {m} a g) = absurd (false≢true (sym e ∙ move-is m a g))
   twice-wait e h _ (waitAt {w} a p g) = h w (at-map (λ k j c u r. r .weight) a)
-
-  -- which test it is
-  pub by-test : {test is : Test} {cell : ℕ} → test ≡ is → LeastAt (faultyBy is) b t i cell → LeastAt (faultyBy test) b t i cell
-  by-test q f = rw q f

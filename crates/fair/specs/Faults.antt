@@ -10,14 +10,12 @@ use Rattle.rules.specs.Sizes.{mostNodes}
 use Rattle.rules.specs.declared.Board.{Board}
 use Rattle.rules.specs.Board.{smallest}
 use Rattle.rules.specs.Tree.{noMoves, Wait, Move, Sheet, everyMove}
-use Rattle.rules.specs.Fair.{Fault, notApart, notElusive, firstFault, firstNotApart, firstNotElusive}
+use Rattle.rules.specs.Fair.{Fault, firstFault}
 use Rattle.cells.specs.Cells.{held}
 use Rattle.nodes.specs.Nodes.{aWait, aMove, nodesOfWaits, nodesOfMoves}
 use Rattle.nodes.specs.Table.{RowOn, WeighedOn, At}
 use Rattle.nodes.specs.Order.{TreeNode, isMove, isWait}
 use Rattle.fair.specs.declared.Fault as answered
-use Rattle.fair.specs.declared.Test.{Test}
-use Rattle.fair.specs.declared.Test.the-variants.{Apart, Elusive}
 
 -- the fault that an answer tells, where the first node's line is `first`
 abbrev pub faultSeen : (first : ℕ) → answered.Fault → Option Fault
@@ -38,11 +36,7 @@ pub record FaultFound (s : Sheet) (fault : Option Fault) (r : answered.Fault) : 
 abbrev pub notFree : (stones : ℕ → Bool) → Move → ℕ → Bool
 notFree stones m x = eqb x (m .cell) && stones x
 
--- the first fault of a sheet by a test, and by a set of stones
-abbrev pub firstBy : Test → Sheet → Option Fault
-firstBy Apart s = firstNotApart s
-firstBy Elusive s = firstNotElusive s
-
+-- the first fault of a sheet by a set of stones
 abbrev pub firstFree : (stones : ℕ → Bool) → Sheet → Option Fault
 firstFree stones s = firstFault (s .board) (λ (m : Move). m .line) (notFree stones) (everyMove s)
 
@@ -54,11 +48,6 @@ atMoves faulty (isWait w) x = false
 abbrev pub atWaits : (Wait → ℕ → Bool) → TreeNode → ℕ → Bool
 atWaits faulty (isMove m) x = false
 atWaits faulty (isWait w) x = faulty w x
-
--- x is faulty at a node by a test
-abbrev pub faultyBy : Test → TreeNode → ℕ → Bool
-faultyBy Apart = atMoves notApart
-faultyBy Elusive = atWaits notElusive
 
 -- the line of a node of the tree
 abbrev pub lineOf : TreeNode → ℕ
@@ -82,12 +71,9 @@ pub record SomeTreeNode (b : Board) (t : List ℕ) (i : ℕ) : Type 0 where
   pub node : TreeNode
   pub at : NodeAt b t i node
 
--- a set is the faulty cells of the move, or of the wait, that stands at node i, whatever it is
+-- a set is the faulty cells of the move that stands at node i, whatever it is
 abbrev pub FoundAtMove : (faulty : Move → ℕ → Bool) → Board → List ℕ → ℕ → List ℕ → Type 0
 FoundAtMove faulty b t i rows = (m : Move) → MoveAt b t i m → (x : ℕ) → 1 ≤ x → held b rows x ≡ faulty m x
-
-abbrev pub FoundAtWait : (faulty : Wait → ℕ → Bool) → Board → List ℕ → ℕ → List ℕ → Type 0
-FoundAtWait faulty b t i rows = (w : Wait) → WaitAt b t i w → (x : ℕ) → 1 ≤ x → held b rows x ≡ faulty w x
 
 -- the smallest faulty cell of the node that stands at node i, whatever it is
 abbrev pub LeastAt : (faulty : TreeNode → ℕ → Bool) → Board → List ℕ → (i cell : ℕ) → Type 0

@@ -1,22 +1,21 @@
-// fair: free, apart, no branch twice and elusive, decided over the node table. It holds the four searches for the first faulty
-// node, each with that node's smallest faulty cell where the fault is a cell's. It sees rules, cells and nodes.
+// fair: free, apart and no branch twice, decided over the node table. It holds the three searches for the first faulty node, each
+// with that node's smallest faulty cell where the fault is a cell's. (Elusive is in live.) It sees rules, cells and nodes.
 ghost use mathlib.Core.Path.{_≡_};
 ghost use Prim.Native.Nat.{_+_, _*_, _<_, _≤_};
 ghost use lib.ListN.{length};
 ghost use Rattle.rules.specs.Words.{any, same, twice};
-ghost use Rattle.rules.specs.Fair.{notApart, notElusive, branches, firstOnSetUp, firstNotApart, firstTwice, firstNotElusive};
+ghost use Rattle.rules.specs.Fair.{notApart, branches, firstOnSetUp, firstNotApart, firstTwice};
 ghost use Rattle.rules.specs.Tree.{Wait, Sheet, setUpCells};
 ghost use Rattle.rules.specs.declared.Board as declared;
 ghost use Rattle.cells.specs.Cells.{Holds, Fits};
-ghost use Rattle.nodes.specs.Nodes.{aWait, aMove};
-ghost use Rattle.nodes.specs.Table.{underIn, RowOn, WeighedOn, SomeNode};
+ghost use Rattle.nodes.specs.Nodes.{aMove};
+ghost use Rattle.nodes.specs.Table.{RowOn, SomeNode};
 ghost use Rattle.nodes.specs.Order.{TreeNode};
 ghost use Rattle.nodes.specs.Sheets.{HoldsSheet, SomeSheet};
-ghost use Rattle.fair.specs.Faults.{FaultFound, firstBy, faultyBy, NodeAt, SomeTreeNode, FoundAtMove, FoundAtWait, LeastAt, OneMoreSet};
+ghost use Rattle.fair.specs.Faults.{FaultFound, atMoves, NodeAt, SomeTreeNode, FoundAtMove, LeastAt, OneMoreSet};
 ghost use Rattle.fair.specs.Twice.{sameRow, rowsIn, branchIn, Spans, ForkAt, SomeFork, MovesFrom, twiceBy};
 use cells::Cells;
 use nodes::cell_at;
-use nodes::cells_at;
 use nodes::collect_wait;
 use nodes::end_at;
 use nodes::is_move;
@@ -28,12 +27,6 @@ use rules::Board;
 pub enum Fault {
     At { node: usize, cell: u32 },
     Nothing,
-}
-
-// Which nodes are tested, and how: apart is asked of moves, elusive of waits.
-enum Test {
-    Apart,
-    Elusive,
 }
 
 // The cells found once or more, and those found twice or more.
@@ -81,66 +74,20 @@ fn not_apart_at(table: &[u32], board: Board, i: usize) -> Cells
     seen.twice
 }
 
-// The faulty cells of the wait at node i: those found in every one of its moves.
-fn not_elusive_at(table: &[u32], board: Board, i: usize) -> Cells
-    requires fits { ⌜ Fits board ⌝ }
-    requires stands { ⌜ SomeNode (WeighedOn board (now table)) aWait i ⌝ }
-    requires some { ⌜ 1 ≤ underIn (now table) i ⌝ }
-    ensures { λ r. ⌜ FoundAtWait notElusive board (now (table .entry)) i (r .rows) ⌝ }
-{
-    let under = under_at(table, i);
-    let mut cells = cells_at(table, board, i + 1);
-    let mut next = end_at(table, i + 1);
-    let mut j = 1;
-    while j < under {
-        let own = cells_at(table, board, next);
-        cells = cells.meet(own);
-        next = end_at(table, next);
-        j += 1;
-    }
-    cells
-}
-
-// The smallest faulty cell of node i; 0 where it has none or is of the kind that is not tested.
-fn fault_at(table: &[u32], board: Board, i: usize, test: Test) -> usize
+// The smallest faulty cell of node i by 10; 0 where it has none. (A wait has none, nor has a move with nothing under it.)
+fn fault_at(table: &[u32], board: Board, i: usize) -> usize
     requires fits { ⌜ Fits board ⌝ }
     requires stands { ⌜ SomeTreeNode board (now table) i ⌝ }
-    ensures { λ r. ⌜ LeastAt (faultyBy test) board (now (table .entry)) i r ⌝ }
+    ensures { λ r. ⌜ LeastAt (atMoves notApart) board (now (table .entry)) i r ⌝ }
 {
-    let of_move = is_move(table, i);
-    let found = match test {
-        Test::Apart => {
-            if !of_move {
-                return 0;
-            }
-            not_apart_at(table, board, i)
-        }
-        Test::Elusive => {
-            if of_move {
-                return 0;
-            }
-            not_elusive_at(table, board, i)
-        }
-    };
-    found.least(board)
-}
-
-// The first faulty node by the test.
-fn first_fault(table: &[u32], board: Board, test: Test) -> Fault
-    requires { ⌜ SomeSheet (now table) board ⌝ }
-    ensures { λ r. ⌜ ((s : Sheet) → HoldsSheet (now (table .entry)) board s → FaultFound s (firstBy test s) r) ⌝ }
-{
-    let end = end_at(table, 0);
-    for i in 0..end {
-        let cell = fault_at(table, board, i, test);
-        if cell != 0 {
-            return Fault::At {
-                node: i,
-                cell: cell as u32,
-            };
-        }
+    if !is_move(table, i) {
+        return 0;
     }
-    Fault::Nothing
+    if under_at(table, i) == 0 {
+        return 0;
+    }
+    let found = not_apart_at(table, board, i);
+    found.least(board)
 }
 
 // 20: the first move on a set-up stone, given the cells of the stones. (A wait has no cell.)
@@ -166,15 +113,17 @@ pub fn not_apart(table: &[u32], board: Board) -> Fault
     requires { ⌜ SomeSheet (now table) board ⌝ }
     ensures { λ r. ⌜ ((s : Sheet) → HoldsSheet (now (table .entry)) board s → FaultFound s (firstNotApart s) r) ⌝ }
 {
-    first_fault(table, board, Test::Apart)
-}
-
-// 11: the first wait that is not elusive.
-pub fn not_elusive(table: &[u32], board: Board) -> Fault
-    requires { ⌜ SomeSheet (now table) board ⌝ }
-    ensures { λ r. ⌜ ((s : Sheet) → HoldsSheet (now (table .entry)) board s → FaultFound s (firstNotElusive s) r) ⌝ }
-{
-    first_fault(table, board, Test::Elusive)
+    let end = end_at(table, 0);
+    for i in 0..end {
+        let cell = fault_at(table, board, i);
+        if cell != 0 {
+            return Fault::At {
+                node: i,
+                cell: cell as u32,
+            };
+        }
+    }
+    Fault::Nothing
 }
 
 // Whether nodes i and j have the same cell, and as many nodes right under them.

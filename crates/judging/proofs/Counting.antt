@@ -33,15 +33,15 @@ unfolding moveCount everyMove movesAmong
 tree-moves s = ap (λ (ms : List Move). suc (length ms)) (sym (moves-of-waits (s .root .waits))) ∙ moves-total (treeOf s)
 
 abbrev pub moves-sum : Sum
-moves-sum = record { gives = oneMove; Of = λ s. Unit {0}; Known = λ b n. Unit {0}; all = moveCount; known = λ b s e o n i. tt; is-all = tree-moves }
+moves-sum = record { gives = oneMove; all = moveCount; is-all = tree-moves }
 
 -- what the node at i gives, by its kind
 module _ {b : Board} {t : List ℕ} {i : ℕ} where
-  pub one-here : isMoveAt t i ≡ true → (n : TreeNode) → NodeAt b t i n → Unit {0} → 1 ≡ oneMove n
-  one-here e n a u = of-move e (λ n. 1 ≡ oneMove n) (λ m k. refl) n a
+  pub one-here : isMoveAt t i ≡ true → (n : TreeNode) → NodeAt b t i n → 1 ≡ oneMove n
+  one-here e = of-move e (λ n. 1 ≡ oneMove n) (λ m k. refl)
 
-  none-here : isMoveAt t i ≡ false → (n : TreeNode) → NodeAt b t i n → Unit {0} → 0 ≡ oneMove n
-  none-here e n a u = of-wait e (λ n. 0 ≡ oneMove n) (λ w k g. refl) n a
+  none-here : isMoveAt t i ≡ false → (n : TreeNode) → NodeAt b t i n → 0 ≡ oneMove n
+  none-here e = of-wait e (λ n. 0 ≡ oneMove n) (λ w k g. refl)
 
   module _ {end moves : ℕ} (c : Adding moves-sum b t i end moves) (h : i < end) where
     pub counting-move : isMoveAt t i ≡ true → Adding moves-sum b t (i + 1) end (moves + 1)

@@ -11,16 +11,15 @@ use Rattle.rules.specs.Sizes.{mostNodes, mostOutcomes}
 use Rattle.rules.specs.Tree.{Sheet, setUpCells}
 use Rattle.rules.specs.Reading.{Result, refused, got}
 use Rattle.rules.specs.Fair.{Fault, firstOnSetUp, firstNotApart, firstTwice, firstNotElusive}
+use Rattle.rules.specs.Live.{idleCount}
 use Rattle.rules.specs.Outcomes.{outcomeCount}
 use Rattle.rules.specs.Entries.{_>>=_, refuseIf, refuseFault, fair}
 use Rattle.rules.specs.declared.Board.{Board}
 use Rattle.rules.specs.declared.Verdict.{Verdict}
 use Rattle.rules.specs.declared.Verdict.the-variants.{OnSetUp, NotApart, NotElusive, TooManyOutcomes, SameBranch}
 use Rattle.rules.proofs.Lists.{none-long}
-use Rattle.rules.proofs.Steps.{then-got, refuseFault-got}
 use Rattle.rules.proofs.SetUp.{either-side}
-use Rattle.rules.specs.Plain.{AllElusive}
-use Rattle.rules.proofs.Given.{bare-free, none-elusive}
+use Rattle.rules.proofs.Given.{bare-free}
 use Rattle.rules.proofs.Living.{idle-few}
 use Rattle.cells.specs.Cells.{held, Holds}
 use Rattle.nodes.specs.Table.{countIn}
@@ -99,14 +98,13 @@ module _ {t : List ℕ} {b : Board} {s : Sheet} (h : HoldsSheet t b s) where
       single-told e a = no-fault (λ line cell. SameBranch line) (fromElusive s) s (firstTwice s) r k e a
 
     -- 11
-    module _ (r : answered.Fault) (k : FaultFound s (firstNotElusive s) r) where
-      pub not-elusive-told : (i c line : ℕ) → r ≡ answered.the-variants.At i c → line ≡ i + first → fromElusive s ≡ refused (NotElusive line c)
-      unfolding fromElusive
-      not-elusive-told i c line e l = at-fault NotElusive _ s (firstNotElusive s) r i c line k e (on-line i line l)
+    pub not-elusive-told : (i c line : ℕ) → FaultFound s (firstNotElusive s) (answered.the-variants.At i c) → line ≡ i + first → fromElusive s ≡ refused (NotElusive line c)
+    unfolding fromElusive
+    not-elusive-told i c line k l = at-fault NotElusive _ s (firstNotElusive s) _ i c line k refl (on-line i line l)
 
-      pub elusive-told : r ≡ answered.the-variants.Nothing → fromElusive s ≡ got s
-      unfolding fromElusive
-      elusive-told e = no-fault NotElusive (got s) s (firstNotElusive s) r k e Checked.Passed refl
+    pub elusive-told : FaultFound s (firstNotElusive s) answered.the-variants.Nothing → (idle : ℕ) → idle ≡ idleCount s → Says s (fromElusive s) (Checked.Passed idle)
+    unfolding fromElusive
+    elusive-told k idle e = no-fault NotElusive (got s) s (firstNotElusive s) _ k refl (Checked.Passed idle) (refl, e)
 
     -- where the first node stands on line 2 no stone was set up, so no move is on one
     pub none-told : first ≡ 2 → (a : Checked) → Says s (fromApart s) a → Says s (fromFree s) a
@@ -114,16 +112,6 @@ module _ {t : List ℕ} {b : Board} {s : Sheet} (h : HoldsSheet t b s) where
     none-told e a t =
         let none-set-up : length (s .set-up) ≡ 0 = omega (arith, on, h .well .first-line) in
         subst⁻¹ (λ (z : Result Sheet). Says s z a) (ap (λ (o : Option Fault). refuseFault OnSetUp o >>= λ u. fromApart s) (bare-free s (none-long (s .set-up) none-set-up))) t
-
--- a sheet that passes them is elusive
-pub is-elusive : (s : Sheet) → fromFree s ≡ got s → AllElusive s
-unfolding fromFree fromApart fromTwice fromElusive
-is-elusive s e =
-    let a = then-got (refuseFault OnSetUp (firstOnSetUp s)) _ s e in
-    let b = then-got (refuseFault NotApart (firstNotApart s)) _ s (a .2) in
-    let c = then-got (refuseFault (λ line cell. SameBranch line) (firstTwice s)) _ s (b .2) in
-    let d = then-got (refuseFault NotElusive (firstNotElusive s)) _ s (c .2) in
-    none-elusive s (refuseFault-got NotElusive (firstNotElusive s) (d .0) (d .1))
 
 -- what they said, and 12 after them
 module _ (s : Sheet) where
@@ -145,17 +133,17 @@ module _ (s : Sheet) where
       (then-count (refuseFault NotElusive (firstNotElusive s)) _ fromCount ∙ unfold _>>=_ in refl))))
 
   module _ (r : Checked) (h : Says s (fromFree s) r) where
-    pub said-passed : r ≡ Checked.Passed → fromFree s ≡ got s
-    said-passed e = subst (Says s (fromFree s)) e h
+    pub said-passed : (idle : ℕ) → r ≡ Checked.Passed idle → (fromFree s ≡ got s) × (idle ≡ idleCount s)
+    said-passed idle e = subst (Says s (fromFree s)) e h
 
     pub said-refused : (v : Verdict) → r ≡ Checked.Refused v → fair s ≡ refused v
     unfolding _>>=_
     said-refused v e = fair-parts ∙ ap (λ (z : Result Sheet). z >>= fromCount) (subst (Says s (fromFree s)) e h)
 
-    pub said-told : r ≡ Checked.Passed → (t : List ℕ) (b : Board) (a : FairRead) → Tells t b s (fromCount s) a → Tells t b s (fair s) a
+    pub said-told : (idle : ℕ) → r ≡ Checked.Passed idle → (t : List ℕ) (b : Board) (a : FairRead) → Tells t b s (fromCount s) a → Tells t b s (fair s) a
     unfolding _>>=_
-    said-told e t b a k =
-        subst⁻¹ (λ (z : Result Sheet). Tells t b s z a) (fair-parts ∙ ap (λ (z : Result Sheet). z >>= fromCount) (said-passed e)) k
+    said-told idle e t b a k =
+        subst⁻¹ (λ (z : Result Sheet). Tells t b s z a) (fair-parts ∙ ap (λ (z : Result Sheet). z >>= fromCount) (said-passed idle e .0)) k
 
 -- 12: the table has the count of outcomes, kept at one past the most
 module _ {t : List ℕ} {b : Board} {s : Sheet} {idle : ℕ} (h : KeepsLive t b s idle) (count : ℕ) (e : count ≡ countIn t 0) where

@@ -6,6 +6,7 @@ use lib.Dec.{ltb}
 use Rattle.rules.specs.Sizes.{mostOutcomes}
 use Rattle.rules.specs.Tree.{Sheet}
 use Rattle.rules.specs.Fair.{firstOnSetUp, firstNotApart, firstTwice, firstNotElusive}
+use Rattle.rules.specs.Live.{idleCount}
 use Rattle.rules.specs.Reading.{Result, refused, got}
 use Rattle.rules.specs.Outcomes.{outcomeCount}
 use Rattle.rules.specs.Entries.{_>>=_, refuseIf, refuseFault, fair, satisfying}
@@ -44,9 +45,9 @@ fromCount s = do
   _ ← refuseIf (ltb mostOutcomes (outcomeCount s)) TooManyOutcomes
   got s
 
--- what they say of a sheet
+-- what they say of a sheet: it passes them, and so many of its moves aren't live; or the refusal
 abbrev pub Says : Sheet → Result Sheet → Checked → Type 0
-Says s check Checked.Passed = check ≡ got s
+Says s check (Checked.Passed idle) = (check ≡ got s) × (idle ≡ idleCount s)
 Says s check (Checked.Refused v) = check ≡ refused v
 
 -- 20, 10, 24, 11, 12, 13

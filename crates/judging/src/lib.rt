@@ -12,9 +12,10 @@ ghost use Rattle.judging.specs.Checked.{fromFree, fromApart, fromTwice, 
 use fair::Fault;
 use fair::branch_twice;
 use fair::not_apart;
-use fair::not_elusive;
 use fair::on_set_up;
+use live::Elusive;
 use live::keep_live;
+use live::not_elusive;
 use nodes::SetUp;
 use nodes::count_at;
 use nodes::end_at;
@@ -32,9 +33,9 @@ pub enum FairRead {
     Refused { verdict: Verdict },
 }
 
-// What the checks over every line come to.
+// What the checks over every line come to: how many moves aren't live, or the refusal.
 enum Checked {
-    Passed,
+    Passed { idle: usize },
     Refused { verdict: Verdict },
 }
 
@@ -46,19 +47,22 @@ fn line_of(node: usize, first: u32) -> u32
     node as u32 + first
 }
 
-// 11: a wait that is not elusive.
+// 11: a wait that is not elusive; or how many moves aren't live.
 fn elusive_on(table: &[u32], board: Board, first: u32) -> Checked
     requires holds { ⌜ SomeSheet (now table) board ⌝ }
     requires low { ⌜ first ≤ mostBytes + 2 ⌝ }
     ensures { λ r. ⌜ ((s : Sheet) → HoldsSheet (now (table .entry)) board s → first ≡ s .root .line → Says s (fromElusive s) r) ⌝ }
 {
-    if let Fault::At { node, cell } = not_elusive(table, board) {
-        let line = line_of(node, first);
-        return Checked::Refused {
-            verdict: Verdict::NotElusive { line, cell },
-        };
+    let found = not_elusive(table, board);
+    match found {
+        Elusive::Not { node, cell } => {
+            let line = line_of(node, first);
+            Checked::Refused {
+                verdict: Verdict::NotElusive { line, cell },
+            }
+        }
+        Elusive::All { idle } => Checked::Passed { idle },
     }
-    Checked::Passed
 }
 
 // 24: a wait that has a branch twice; and then 11.
@@ -146,8 +150,8 @@ pub fn fair_sheet(table: &mut [u32], board: Board, setup: SetUp) -> FairRead
     let checked = every_line(table, board, setup);
     match checked {
         Checked::Refused { verdict } => FairRead::Refused { verdict },
-        Checked::Passed => {
-            let idle = keep_live(table, board);
+        Checked::Passed { idle } => {
+            keep_live(table, board, idle);
             few_on(table, board, idle)
         }
     }

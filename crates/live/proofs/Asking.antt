@@ -1,6 +1,6 @@
 -- A loop over the moves of a wait that looks at each: what was told of those before, and what is left. For any statement of these.
 use mathlib.Core.Path.{_≡_, refl, sym, ap, _∙_, subst}
-use mathlib.Core.Bool.{true}
+use mathlib.Core.Bool.{Bool, true, _&&_, and-true, true≢false}
 use mathlib.Core.Logic.{_⊎_, ⊎-elim}
 use mathlib.Core.List.{List}
 use mathlib.Core.Option.{none}
@@ -8,14 +8,15 @@ use Prim.Native.Nat.{ℕ, suc, _+_, _-_, _≤_}
 use native.Mathlib.Omega.{arith}
 use Rattle.rules.specs.declared.Board.{Board}
 use Rattle.rules.specs.Tree.{Waits, Moves, noMoves, move}
+use Rattle.rules.specs.Fair.{inEvery}
 use Rattle.rules.specs.Live.{Shared, andThis, isLive, livingAfter, idleUnder}
 use Rattle.nodes.specs.Nodes.{Nodes, node, Kind, aWait, aMove, many, nodesOfWaits, nodesOfMoves, size}
 use Rattle.nodes.specs.Table.{Property, WeighedOn, At}
 use Rattle.nodes.proofs.Walk.{Walking}
-use Rattle.live.specs.Looking.{CommonIs, NoneBefore, LookedAny}
+use Rattle.live.specs.Looking.{CommonIs, NoneBefore}
 use Rattle.live.specs.declared.Common.{Common}
-use Rattle.live.specs.declared.Looked.{Looked}
-use Rattle.live.proofs.Sharing.{spent-all}
+use Rattle.live.proofs.Sharing.{spent-all, inAllBefore, spent-none}
+use Rattle.live.proofs.Looking.{Learnt}
 
 -- a statement of all moves of a wait, the cells common to those before, and those that are left
 abbrev pub Statement : Type 1
@@ -53,52 +54,80 @@ first-of c v a (move line d ws ms) e =
     record { line = line; waits = ws; others = ms; is = ap (λ x. move line x ws ms) (sym own); under = cc; after = cc }
 
 -- one more is looked at
-pub asked-again : {b : Board} {t : List ℕ} {z : Common} {r : Looked} {next : ℕ} (R R′ : Statement) → LookedAny b t next z r
+pub asked-again : {b : Board} {t : List ℕ} {z z′ : Common} {live : Bool} {next next′ : ℕ} (R R′ : Statement) → Learnt b t next z live next′ z′
     → (c : ℕ) (v : Nodes) → At (WeighedOn b t) aMove next c v
     → ((ms : Moves) (before : Shared) (line : ℕ) (ws : Waits) (others : Moves) → At (WeighedOn b t) aMove next c (nodesOfWaits ws)
-    → r .live ≡ isLive before c ws → R ms before (move line c ws others) → R′ ms (andThis before c ws) others)
-    → (u a : Nodes) → Asked b z R u (node c v a) → Asked b (r .common) R′ u a
-asked-again {b} {t} {z} {r} {next} R R′ look c v m step u a f = record { of = one }
+    → live ≡ isLive before c ws → R ms before (move line c ws others) → R′ ms (andThis before c ws) others)
+    → (u a : Nodes) → Asked b z R u (node c v a) → Asked b z′ R′ u a
+asked-again {b} {t} {z} {z′} {live} {next} R R′ learnt c v m step u a f = record { of = one }
   where
-    one : (ms : Moves) → u ≡ nodesOfMoves ms → MovesLeft b (r .common) R′ ms a
+    one : (ms : Moves) → u ≡ nodesOfMoves ms → MovesLeft b z′ R′ ms a
     one ms e =
         let l = f .of ms e in
         let x = first-of c v a (l .moves) (l .are) in
         let at = subst (At (WeighedOn b t) aMove next c) (x .under) m in
-        let told = look .tells (l .before) c (x .waits) (l .common) at in
         record {
           before = andThis (l .before) c (x .waits);
           moves = x .others;
           are = x .after;
-          common = told .common-is;
-          holds = step ms (l .before) (x .line) (x .waits) (x .others) at (told .live-is) (subst (R ms (l .before)) (x .is) (l .holds));
+          common = learnt .common-is (l .before) c (x .waits) (l .common) at;
+          holds = step ms (l .before) (x .line) (x .waits) (x .others) at (learnt .live-is (l .before) c (x .waits) (l .common) at) (subst (R ms (l .before)) (x .is) (l .holds));
         }
 
 -- No move is left, or none that is left is live
 abbrev pub Stops : (z : Common) → (under j : ℕ) → Type 0
 Stops z under j = (under ≤ j) ⊎ (z .spent ≡ true)
 
-pub record Stopped (R : Statement) (ms : Moves) (left : ℕ) : Type 0 where
+pub record Stopped (b : Board) (z : Common) (R : Statement) (ms : Moves) (left : ℕ) : Type 0 where
   pub before : Shared
   pub moves : Moves
+  pub common : CommonIs b z before
   pub holds : R ms before moves
   pub none-live : livingAfter before moves ≡ noMoves
   pub all-idle : idleUnder before moves ≡ left
+  pub none-before : before ≡ none → moves ≡ noMoves
+  pub in-all : (x : ℕ) → (inAllBefore before x && inEvery moves x) ≡ inAllBefore before x
 
-no-more : (before : Shared) (ms : Moves) → many (nodesOfMoves ms) ≡ 0 → (livingAfter before ms ≡ noMoves) × (idleUnder before ms ≡ many (nodesOfMoves ms))
-unfolding livingAfter idleUnder nodesOfMoves many
-no-more before noMoves e = (refl, refl)
+-- as it is where none is left, and where none that is left is live
+record Over (before : Shared) (ms : Moves) : Type 0 where
+  none-live : livingAfter before ms ≡ noMoves
+  all-idle : idleUnder before ms ≡ many (nodesOfMoves ms)
+  none-before : before ≡ none → ms ≡ noMoves
+  in-all : (x : ℕ) → (inAllBefore before x && inEvery ms x) ≡ inAllBefore before x
+
+no-more : (before : Shared) (ms : Moves) → many (nodesOfMoves ms) ≡ 0 → Over before ms
+unfolding livingAfter idleUnder nodesOfMoves many inEvery
+no-more before noMoves e = record { none-live = refl; all-idle = refl; none-before = λ q. refl; in-all = λ x. and-true (inAllBefore before x) }
 no-more before (move line c ws ms) e = absurd (omega arith)
 
+none-more : (b : Board) (z : Common) → z .spent ≡ true → (before : Shared) → CommonIs b z before → (ms : Moves) → Over before ms
+none-more b z e before h ms =
+    let d = spent-all b z e before h ms in
+    record {
+      none-live = d .0;
+      all-idle = d .1;
+      none-before = λ q. absurd (true≢false (sym e ∙ subst (CommonIs b z) q h .none-spent));
+      in-all = λ x. let gone = spent-none b z e before h x in ap (λ y. y && inEvery ms x) gone ∙ sym gone;
+    }
+
 module _ {P : Property} {b : Board} {t : List ℕ} {i under next j : ℕ} {z : Common} {R : Statement} (w : Walking P (WeighedOn b t) aWait i under next j (Asked b z R)) (stop : Stops z under j) where
-  pub asked-stop : (ms : Moves) → At P aWait i 0 (nodesOfMoves ms) → Stopped R ms (under - j)
+  pub asked-stop : (ms : Moves) → At P aWait i 0 (nodesOfMoves ms) → Stopped b z R ms (under - j)
   asked-stop ms m =
       let l = w .left 0 (nodesOfMoves ms) m in
       let k = l .holds .of ms refl in
       let same : many (nodesOfMoves (k .moves)) ≡ under - j = ap many (sym (k .are)) ∙ l .many-left in
-      let d : (livingAfter (k .before) (k .moves) ≡ noMoves) × (idleUnder (k .before) (k .moves) ≡ many (nodesOfMoves (k .moves))) =
-      ⊎-elim (λ p. no-more (k .before) (k .moves) (omega (arith, same))) (λ e. spent-all b z e (k .before) (k .common) (k .moves)) stop in
-      record { before = k .before; moves = k .moves; holds = k .holds; none-live = d .0; all-idle = d .1 ∙ same }
+      let d : Over (k .before) (k .moves) =
+      ⊎-elim (λ p. no-more (k .before) (k .moves) (omega (arith, same))) (λ e. none-more b z e (k .before) (k .common) (k .moves)) stop in
+      record {
+        before = k .before;
+        moves = k .moves;
+        common = k .common;
+        holds = k .holds;
+        none-live = d .none-live;
+        all-idle = d .all-idle ∙ same;
+        none-before = d .none-before;
+        in-all = d .in-all;
+      }
 
 -- it is no further than the wait goes
 pub walk-within : {P Q : Property} {k : Kind} {i under next j c : ℕ} {u : Nodes} {R : Nodes → Nodes → Type 0} → Walking P Q k i under next j R → At P k i c u → next ≤ i + 1 + size u

@@ -4,3 +4,4 @@ pub mod Asking
 pub mod Idle
 pub mod Thinning
 pub mod Held
+pub mod OneReply

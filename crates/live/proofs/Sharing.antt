@@ -1,4 +1,4 @@
--- The cells common to all moves before: whether one more move is live, and what is common with it.
+-- The cells common to all moves before: whether one more move is live, what is common with it, and the smallest.
 use mathlib.Core.Path.{_≡_, refl, sym, _∙_, subst, subst⁻¹}
 use mathlib.Core.Bool.{Bool, true, false, not, _&&_, true≢false}
 use mathlib.Core.Logic.{⊎-elim}
@@ -10,19 +10,22 @@ use native.Mathlib.Omega.{arith}
 use lib.Dec.{T, not-T, T-not}
 use Rattle.rules.specs.declared.Board.{Board}
 use Rattle.rules.specs.Words.{among, keep, any, oneIf}
+use Rattle.rules.specs.Board.{smallest}
 use Rattle.rules.specs.Tree.{Waits, Moves, noMoves, move}
 use Rattle.rules.specs.Fair.{inMove}
 use Rattle.rules.specs.Live.{Shared, andThis, isLive, livingAfter, idleUnder}
 use Rattle.rules.proofs.Tests.{false-of, same-test, both, fst, snd}
 use Rattle.rules.proofs.Lists.{keep-in, in-keep, any-some, some-any}
 use Rattle.rules.proofs.Live.{move-listed}
+use Rattle.rules.proofs.Smallest.{smallest-zero}
 use Rattle.rules.proofs.Places.{cell-range}
 use Rattle.cells.specs.Cells.{held, someBeyond}
 use Rattle.cells.specs.declared.Cells.{Cells}
 use Rattle.cells.proofs.Held.{held-cell}
 use Rattle.cells.proofs.Beyond.{beyond-some, some-beyond}
+use Rattle.cells.proofs.Smallest.{smallest-same}
 use Rattle.nodes.specs.Nodes.{many, nodesOfMoves}
-use Rattle.live.specs.Looking.{SomeBefore, CommonIs, LivesAny, NarrowedAny}
+use Rattle.live.specs.Looking.{SomeBefore, CommonIs, LivesAny, NarrowedAny, LeastAny}
 use Rattle.live.specs.declared.Common.{Common}
 
 clash : {A : Type 0} {y : Bool} → y ≡ true → y ≡ false → A
@@ -35,6 +38,10 @@ unset false e = refl
 pub is-set : (y : Bool) → not y ≡ false → y ≡ true
 is-set true e = refl
 is-set false e = sym e
+
+by-not : (y : Bool) → (T (not y) → ⊥) → T y
+by-not true f = tt
+by-not false f = absurd (f tt)
 
 -- what is listed is at least 1 where 0 is not
 listed-pos : (xs : List ℕ) (x : ℕ) → (T (among xs 0) → ⊥) → T (among xs x) → 1 ≤ x
@@ -105,23 +112,29 @@ narrowed-later b z own more empty left e both-are none-there is (some xs) c ws h
         let f = keep-in (inMove c ws) x xs m in
         subst⁻¹ T (both-are x) (both (held b (z .cells .rows) x) (held b (own .rows) x) (subst⁻¹ T (h .same x p) (f .0)) (subst⁻¹ T (k .same x p) (f .1))))
 
+-- a move that isn't live has all common cells, so they stay
+pub idle-still : (b : Board) (z : Common) (before : Shared) → CommonIs b z before → (c : ℕ) (ws : Waits) → isLive before c ws ≡ false → CommonIs b z (andThis before c ws)
+unfolding isLive andThis
+idle-still b z none h c ws e = clash refl e
+idle-still b z (some xs) h c ws e =
+    record {
+      some-some = h .some-some;
+      same = λ x p. h .same x p ∙ same-test (among xs x) (among (keep (inMove c ws) xs) x) (λ m. in-keep (inMove c ws) x xs (is-in x m) m) (λ m. was x m);
+      no-zero = λ m. h .no-zero (was 0 m);
+      none-left = λ q x m. h .none-left q x (was x m);
+    }
+  where
+    was : (x : ℕ) → T (among (keep (inMove c ws) xs) x) → T (among xs x)
+    was x m = keep-in (inMove c ws) x xs m .0
+
+    is-in : (x : ℕ) → T (among xs x) → T (inMove c ws x)
+    is-in x m = by-not (inMove c ws x) (λ o. subst T e (some-any (λ y. not (inMove c ws y)) x xs m o))
+
 -- where none is left, no further move is live
 module _ (b : Board) (z : Common) (e : z .spent ≡ true) where
   spent-idle : (xs : List ℕ) → SomeBefore b z xs → (c : ℕ) (ws : Waits) → isLive (some xs) c ws ≡ false
   unfolding isLive
   spent-idle xs h c ws = false-of _ (λ l. let d = any-some (λ y. not (inMove c ws y)) xs l in h .none-left e (d .0) (d .1))
-
-  spent-still : (xs : List ℕ) → SomeBefore b z xs → (c : ℕ) (ws : Waits) → SomeBefore b z (keep (inMove c ws) xs)
-  spent-still xs h c ws =
-      record {
-        some-some = h .some-some;
-        same = λ x p. h .same x p ∙ false-of (among xs x) (h .none-left e x) ∙ sym (false-of (among (keep (inMove c ws) xs) x) (gone x));
-        no-zero = gone 0;
-        none-left = λ q. gone;
-      }
-    where
-      gone : (x : ℕ) → T (among (keep (inMove c ws) xs) x) → ⊥
-      gone x m = h .none-left e x (keep-in (inMove c ws) x xs m .0)
 
   pub spent-all : (before : Shared) → CommonIs b z before → (ms : Moves) → (livingAfter before ms ≡ noMoves) × (idleUnder before ms ≡ many (nodesOfMoves ms))
   unfolding livingAfter idleUnder andThis many nodesOfMoves oneIf
@@ -129,5 +142,34 @@ module _ (b : Board) (z : Common) (e : z .spent ≡ true) where
   spent-all (some xs) h noMoves = (refl, refl)
   spent-all (some xs) h (move line c ws ms) =
       let idle = spent-idle xs h c ws in
-      let rest = spent-all (some (keep (inMove c ws) xs)) (spent-still xs h c ws) ms in
+      let rest = spent-all (some (keep (inMove c ws) xs)) (idle-still b z (some xs) h c ws idle) ms in
       (rw idle (rest .0), rw idle (omega (arith, rest .1)))
+
+-- ---- the cells that are in every move
+
+-- x is in all moves before
+abbrev pub inAllBefore : Shared → ℕ → Bool
+inAllBefore none x = true
+inAllBefore (some xs) x = among xs x
+
+-- and in one move more
+pub all-before : (before : Shared) (c : ℕ) (ws : Waits) (x : ℕ) → inAllBefore (andThis before c ws) x ≡ (inAllBefore before x && inMove c ws x)
+unfolding andThis
+all-before none c ws x = move-listed c ws x
+all-before (some xs) c ws x =
+    same-test (among (keep (inMove c ws) xs) x) (among xs x && inMove c ws x)
+    (λ m. let f = keep-in (inMove c ws) x xs m in both (among xs x) (inMove c ws x) (f .0) (f .1))
+    (λ m. in-keep (inMove c ws) x xs (snd (among xs x) (inMove c ws x) m) (fst (among xs x) (inMove c ws x) m))
+
+-- none is where none is left
+pub spent-none : (b : Board) (z : Common) → z .spent ≡ true → (before : Shared) → CommonIs b z before → (x : ℕ) → inAllBefore before x ≡ false
+spent-none b z e none h x = clash e (h .none-spent)
+spent-none b z e (some xs) h x = false-of (among xs x) (h .none-left e x)
+
+-- the smallest of them: 0 where none is left, else that of the set
+module _ (b : Board) (z : Common) where
+  pub least-spent : z .spent ≡ true → LeastAny b z 0
+  least-spent e xs h = sym (smallest-zero b (among xs) (λ x c m. h .none-left e x m))
+
+  pub least-left : {r : ℕ} → r ≡ smallest b (held b (z .cells .rows)) → LeastAny b z r
+  least-left e xs h = e ∙ smallest-same b (held b (z .cells .rows)) (among xs) (λ x c. h .same x (cell-range b x c .0))

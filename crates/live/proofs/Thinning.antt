@@ -1,6 +1,6 @@
 -- The loops over the waits of a move, and over the moves of a wait, that leave out the moves that aren't live.
 use mathlib.Core.Path.{_≡_, refl, sym, ap, subst, subst⁻¹, _∙_}
-use mathlib.Core.Bool.{true, false, not}
+use mathlib.Core.Bool.{Bool, true, false, not}
 use mathlib.Core.List.{List}
 use mathlib.Core.Option.{none}
 use Prim.Native.Nat.{ℕ, suc, _+_, _-_, _*_, _<_, _≤_}
@@ -15,10 +15,10 @@ use Rattle.nodes.specs.Nodes.{Nodes, noNodes, node, Kind, aWait, aMove, many, s
 use Rattle.nodes.specs.Table.{cellIn, underIn, endIn, withNode, Each, nothing, first, Stand, WeighedOn, At, SomeNode}
 use Rattle.nodes.proofs.Table.{each-map, at-map, Agree, agree-within, agree-then, row-agree, weighed-row-agree, stand-agree, stored-row, stored, node-end}
 use Rattle.nodes.proofs.Walk.{Walking, walking-starts, walking-again, walking-ends}
-use Rattle.live.specs.Looking.{NoneBefore, LookedAny}
+use Rattle.live.specs.Looking.{NoneBefore}
 use Rattle.live.specs.Thinning.{Within, MovedUp, StandsTo, MoveThinnedAny, WaitThinnedAny}
 use Rattle.live.specs.declared.Common.{Common}
-use Rattle.live.specs.declared.Looked.{Looked}
+use Rattle.live.proofs.Looking.{Learnt}
 use Rattle.live.proofs.Asking.{Asked, asked-all, asked-again, Stops, Stopped, asked-stop, walk-within}
 
 no-nodes : {ms : Moves} → ms ≡ noMoves → nodesOfMoves ms ≡ noNodes
@@ -256,13 +256,13 @@ moves-starts b t from to under z e p n =
     }
 
 module _ {b : Board} {t₀ t : List ℕ} {from to under next out j : ℕ} {z : Common} {kept : ℕ} (w : MovesGoing b t₀ t from to under next out j z kept) where
-  module _ (p : j < under) (n : SomeNode (WeighedOn b t) aMove next) (s : SomeNode (WeighedOn b t₀) aWait from) {r : Looked} (l : LookedAny b t next z r) where
-    further : next ≤ r .next
+  module _ (p : j < under) (n : SomeNode (WeighedOn b t) aMove next) (s : SomeNode (WeighedOn b t₀) aWait from) {live : Bool} {next′ : ℕ} {z′ : Common} (l : Learnt b t next z live next′ z′) where
+    further : next ≤ next′
     further = omega (arith, l .next-is (n .cell) (n .under) (n .at))
 
     -- one more is live, and was thinned
-    pub moves-live : r .live ≡ true → {out′ kept′ : ℕ} {v : List ℕ} → MoveThinnedAny b t next out out′ v → kept′ ≡ kept + 1
-        → MovesGoing b t₀ v from to under (r .next) out′ (j + 1) (r .common) kept′
+    pub moves-live : live ≡ true → {out′ kept′ : ℕ} {v : List ℕ} → MoveThinnedAny b t next out out′ v → kept′ ≡ kept + 1
+        → MovesGoing b t₀ v from to under next′ out′ (j + 1) z′ kept′
     unfolding many
     moves-live e {out′} {kept′} {v} h k =
         record {
@@ -276,17 +276,17 @@ module _ {b : Board} {t₀ t : List ℕ} {from to under next out j : ℕ} {z : C
           few = omega (arith, w .few);
         }
       where
-        step : {c : ℕ} (ms : Moves) (before : Shared) (line : ℕ) (ws : Waits) (others : Moves) → At (WeighedOn b t) aMove next c (nodesOfWaits ws) → r .live ≡ isLive before c ws
+        step : {c : ℕ} (ms : Moves) (before : Shared) (line : ℕ) (ws : Waits) (others : Moves) → At (WeighedOn b t) aMove next c (nodesOfWaits ws) → live ≡ isLive before c ws
             → Kept t to out kept ms before (move line c ws others) → Kept v to out′ kept′ ms (andThis before c ws) others
-        step {c} ms before line ws others at live f =
-            let q = nodes-live before line c ws others (holds-of (sym live ∙ e)) in
+        step {c} ms before line ws others at is f =
+            let q = nodes-live before line c ws others (holds-of (sym is ∙ e)) in
             record {
               built = built-more (w .going .ahead) (h .moved .kept) (h .thinned c ws at) (subst (Built t aMove to out (nodesOfMoves (livingAfter none ms))) q (f .built));
               many-kept = omega (arith, f .many-kept, k, ap many q);
             }
 
     -- or isn't, and is left out
-    pub moves-idle : r .live ≡ false → MovesGoing b t₀ t from to under (r .next) out (j + 1) (r .common) kept
+    pub moves-idle : live ≡ false → MovesGoing b t₀ t from to under next′ out (j + 1) z′ kept
     moves-idle e =
         record {
           walk = walking-again (w .walk) p s (λ c u m.
@@ -299,10 +299,10 @@ module _ {b : Board} {t₀ t : List ℕ} {from to under next out j : ℕ} {z : C
           few = omega (arith, w .few);
         }
       where
-        step : {c : ℕ} (ms : Moves) (before : Shared) (line : ℕ) (ws : Waits) (others : Moves) → At (WeighedOn b t) aMove next c (nodesOfWaits ws) → r .live ≡ isLive before c ws
+        step : {c : ℕ} (ms : Moves) (before : Shared) (line : ℕ) (ws : Waits) (others : Moves) → At (WeighedOn b t) aMove next c (nodesOfWaits ws) → live ≡ isLive before c ws
             → Kept t to out kept ms before (move line c ws others) → Kept t to out kept ms (andThis before c ws) others
-        step {c} ms before line ws others at live f =
-            let q = nodes-idle before line c ws others (subst (λ y. T (not y)) (sym e ∙ live) tt) in
+        step {c} ms before line ws others at is f =
+            let q = nodes-idle before line c ws others (subst (λ y. T (not y)) (sym e ∙ is) tt) in
             record {
               built = subst (Built t aMove to out (nodesOfMoves (livingAfter none ms))) q (f .built);
               many-kept = omega (arith, f .many-kept, ap many q);
@@ -317,7 +317,7 @@ module _ {b : Board} {t₀ t : List ℕ} {from to under next out j : ℕ} {z : C
         thinned = λ ms m. done ms (asked-stop (w .walk) p ms m);
       })
     where
-      done : (ms : Moves) → Stopped (Kept t to out kept) ms (under - j) → StandsTo (withNode t to 0 kept) aWait to 0 (nodesOfMoves (livingAfter none ms)) out
+      done : (ms : Moves) → Stopped b z (Kept t to out kept) ms (under - j) → StandsTo (withNode t to 0 kept) aWait to 0 (nodesOfMoves (livingAfter none ms)) out
       done ms d =
           let none-left = no-nodes (d .none-live) in
           let many-left : many (nodesOfMoves (livingAfter (d .before) (d .moves))) ≡ 0 = ap many none-left ∙ none-many in

@@ -1,22 +1,24 @@
--- What looking at the moves of a wait tells: which are live, and how many aren't.
+-- What looking at the moves of a wait tells: the cells that all of them share, which are live, and how many aren't.
 use mathlib.Core.Path.{_≡_}
 use mathlib.Core.Bool.{Bool, true, false}
 use mathlib.Core.List.{List}
 use mathlib.Core.Option.{none, some}
-use Prim.Native.Nat.{ℕ, _+_, _≤_}
+use mathlib.Core.Logic.{_≢_}
+use Prim.Native.Nat.{ℕ, _≤_}
 use lib.Dec.{T}
 use Rattle.rules.specs.declared.Board.{Board}
 use Rattle.rules.specs.Words.{among}
-use Rattle.rules.specs.Tree.{Waits, Sheet}
-use Rattle.rules.specs.Fair.{inMove}
-use Rattle.rules.specs.Live.{Shared, andThis, isLive, idleAt}
-use Rattle.rules.specs.Plain.{IsElusive, AllElusive}
+use Rattle.rules.specs.Board.{smallest}
+use Rattle.rules.specs.Tree.{Waits, noMoves, Wait, Sheet}
+use Rattle.rules.specs.Fair.{inMove, notElusive, firstNotElusive}
+use Rattle.rules.specs.Live.{Shared, andThis, isLive, idleAt, idleCount}
 use Rattle.cells.specs.Cells.{held}
-use Rattle.nodes.specs.Nodes.{Nodes, aMove, nodesOfWaits, size}
-use Rattle.nodes.specs.Table.{WeighedOn, At}
 use Rattle.nodes.specs.Order.{TreeNode, isMove, isWait}
-use Rattle.nodes.specs.Sheets.{HoldsSheet}
+use Rattle.fair.specs.Faults.{atWaits, WaitAt, NodeAt, LeastAt, FaultFound}
+use Rattle.fair.specs.declared.Fault.the-variants.{At, Nothing}
 use Rattle.live.specs.declared.Common.{Common}
+use Rattle.live.specs.declared.Elusive.{Elusive}
+use Rattle.live.specs.declared.Elusive.the-variants.{Not, All}
 use Rattle.live.specs.declared.Looked.{Looked}
 
 -- ---- the cells common to all moves before
@@ -49,31 +51,31 @@ LivesAny b z own r = (before : Shared) (c : ℕ) (ws : Waits) → CommonIs b z b
 abbrev pub NarrowedAny : Board → Common → (own : List ℕ) → Common → Type 0
 NarrowedAny b z own r = (before : Shared) (c : ℕ) (ws : Waits) → CommonIs b z before → CellsAre b own c ws → CommonIs b r (andThis before c ws)
 
--- ---- a move of the table
-
--- what is told of the move with the cell c and the waits ws, after those before it
-pub record Told (b : Board) (before : Shared) (c : ℕ) (ws : Waits) (r : Looked) : Type 0 where
-  pub live-is : r .live ≡ isLive before c ws
-  pub common-is : CommonIs b (r .common) (andThis before c ws)
-
-pub record LookedAny (b : Board) (t : List ℕ) (i : ℕ) (z : Common) (r : Looked) : Type 0 where
-  pub next-is : (c : ℕ) (u : Nodes) → At (WeighedOn b t) aMove i c u → r .next ≡ i + 1 + size u
-  pub tells : (before : Shared) (c : ℕ) (ws : Waits) → CommonIs b z before → At (WeighedOn b t) aMove i c (nodesOfWaits ws) → Told b before c ws r
+-- the smallest of the cells that are common to some moves
+abbrev pub LeastAny : Board → Common → ℕ → Type 0
+LeastAny b z r = (xs : List ℕ) → SomeBefore b z xs → r ≡ smallest b (among xs)
 
 -- ---- a wait, a node and a sheet
+
+-- what is told of a wait
+pub record Told (b : Board) (w : Wait) (r : Looked) : Type 0 where
+  pub cell-is : r .cell ≡ smallest b (notElusive w)
+  pub idle-is : r .idle ≡ idleAt w
+
+abbrev pub LookedAny : Board → List ℕ → ℕ → Looked → Type 0
+LookedAny b t i r = (w : Wait) → WaitAt b t i w → w .moves ≢ noMoves → Told b w r
 
 -- how many moves right under a node aren't live
 abbrev pub idleIn : TreeNode → ℕ
 idleIn (isMove m) = 0
 idleIn (isWait w) = idleAt w
 
--- a wait is elusive
-abbrev pub ElusiveNode : Board → TreeNode → Type 0
-ElusiveNode b (isMove m) = Unit {0}
-ElusiveNode b (isWait w) = IsElusive b w
+-- what is told of the node that stands at node i, whatever it is
+pub record LookedAt (b : Board) (t : List ℕ) (i : ℕ) (r : Looked) : Type 0 where
+  pub least : LeastAt (atWaits notElusive) b t i (r .cell)
+  pub idle-is : (n : TreeNode) → NodeAt b t i n → r .idle ≡ idleIn n
 
--- some elusive sheet is held
-pub record SomeElusive (t : List ℕ) (b : Board) : Type 0 where
-  pub sheet : Sheet
-  pub held : HoldsSheet t b sheet
-  pub elusive : AllElusive sheet
+-- what 11 finds of a sheet: its fault, or none, and then how many of its moves aren't live
+abbrev pub ElusiveFound : Sheet → Elusive → Type 0
+ElusiveFound s (Not i c) = FaultFound s (firstNotElusive s) (At i c)
+ElusiveFound s (All idle) = FaultFound s (firstNotElusive s) Nothing × (idle ≡ idleCount s)

@@ -1,19 +1,17 @@
-// live: which moves of the sheet in the table can ever be answered: how many cannot, and the table without them. It sees rules, cells,
-// nodes and fair.
+// live: the cells that all moves of a wait share, so whether it is elusive and which of its moves are live; and the table without the
+// others. It sees rules, cells, nodes and fair.
 ghost use mathlib.Core.Path.{_≡_};
 ghost use Prim.Native.Nat.{_≤_};
 ghost use lib.ListN.{length};
 ghost use Rattle.rules.specs.Sizes.{leastWorkspace};
-ghost use Rattle.rules.specs.Tree.{Wait, Sheet};
-ghost use Rattle.rules.specs.Live.{idleAt, idleCount};
-ghost use Rattle.rules.specs.Plain.{AllElusive};
+ghost use Rattle.rules.specs.Tree.{Sheet};
+ghost use Rattle.rules.specs.Live.{idleCount};
 ghost use Rattle.cells.specs.Cells.{Fits};
 ghost use Rattle.nodes.specs.Nodes.{aWait, aMove};
-ghost use Rattle.nodes.specs.Order.{TreeNode};
 ghost use Rattle.nodes.specs.Table.{WeighedOn, SomeNode};
 ghost use Rattle.nodes.specs.Sheets.{HoldsSheet, HoldsLiving, SomeSheet};
-ghost use Rattle.fair.specs.Faults.{WaitAt, NodeAt, SomeTreeNode};
-ghost use Rattle.live.specs.Looking.{NoneBefore, LivesAny, NarrowedAny, LookedAny, idleIn, ElusiveNode, SomeElusive};
+ghost use Rattle.fair.specs.Faults.{SomeTreeNode};
+ghost use Rattle.live.specs.Looking.{NoneBefore, LivesAny, NarrowedAny, LeastAny, LookedAny, LookedAt, ElusiveFound};
 ghost use Rattle.live.specs.Thinning.{MoveThinnedAny, WaitThinnedAny, KeepsLive};
 use cells::Cells;
 use nodes::cell_at;
@@ -24,6 +22,12 @@ use nodes::set_node;
 use nodes::under_at;
 use nodes::weigh_move;
 use rules::Board;
+
+// What 11 finds: the first wait that is not elusive, and its smallest faulty cell; or that all are, and how many moves aren't live.
+pub enum Elusive {
+    Not { node: usize, cell: u32 },
+    All { idle: usize },
+}
 
 // The cells common to all moves so far of a wait: whether there was one, and, once it is known, that none is left.
 struct Common {
@@ -72,36 +76,30 @@ impl Common {
             cells: both,
         }
     }
-}
 
-// What looking at a move tells: whether it is live, the node after all under it, and the cells that are common with it.
-struct Looked {
-    live: bool,
-    next: usize,
-    common: Common,
-}
-
-// Looks at the move at node i.
-fn look(t: &[u32], board: Board, i: usize, common: Common) -> Looked
-    requires fits { ⌜ Fits board ⌝ }
-    requires stands { ⌜ SomeNode (WeighedOn board (now t)) aMove i ⌝ }
-    requires below { ⌜ 1 ≤ i ⌝ }
-    ensures { λ r. ⌜ LookedAny board (now (t .entry)) i common r ⌝ }
-{
-    let own = cells_at(t, board, i);
-    let live = common.lives(board, own);
-    Looked {
-        live,
-        next: end_at(t, i),
-        common: common.narrowed(board, own),
+    // The smallest cell common to all moves so far, of which there are some; 0 where there is none.
+    fn least(self, board: Board) -> usize
+        requires { ⌜ Fits board ⌝ }
+        ensures { λ r. ⌜ LeastAny board self r ⌝ }
+    {
+        if self.spent {
+            return 0;
+        }
+        self.cells.least(board)
     }
 }
 
-// How many moves of the wait at node i aren't live. Where no cell is common any more, all that are left aren't.
-fn idle_at(t: &[u32], board: Board, i: usize) -> usize
+// What the moves of a wait tell: the smallest cell that is in all of them, 0 where there is none, and how many aren't live.
+struct Looked {
+    cell: usize,
+    idle: usize,
+}
+
+// Looks at the moves of the wait at node i. Where no cell is common any more, all that are left aren't live.
+fn look(t: &[u32], board: Board, i: usize) -> Looked
     requires fits { ⌜ Fits board ⌝ }
     requires stands { ⌜ SomeNode (WeighedOn board (now t)) aWait i ⌝ }
-    ensures { λ r. ⌜ ((w : Wait) → WaitAt board (now (t .entry)) i w → r ≡ idleAt w) ⌝ }
+    ensures { λ r. ⌜ LookedAny board (now (t .entry)) i r ⌝ }
 {
     let under = under_at(t, i);
     let mut common = Common::none();
@@ -112,43 +110,53 @@ fn idle_at(t: &[u32], board: Board, i: usize) -> usize
         if common.spent {
             break;
         }
-        let m = look(t, board, next, common);
-        if !m.live {
+        let own = cells_at(t, board, next);
+        next = end_at(t, next);
+        if common.lives(board, own) {
+            common = common.narrowed(board, own);
+        } else {
             idle += 1;
         }
-        next = m.next;
-        common = m.common;
         j += 1;
     }
-    idle + (under - j)
+    let cell = common.least(board);
+    Looked {
+        cell,
+        idle: idle + (under - j),
+    }
 }
 
-// How many moves right under node i aren't live. (An elusive wait of two moves has none.)
-fn idle_under(t: &[u32], board: Board, i: usize) -> usize
+// The same of node i; a move tells nothing.
+fn look_at(t: &[u32], board: Board, i: usize) -> Looked
     requires fits { ⌜ Fits board ⌝ }
     requires stands { ⌜ SomeTreeNode board (now t) i ⌝ }
-    ensures { λ r. ⌜ ((n : TreeNode) → NodeAt board (now (t .entry)) i n → ElusiveNode board n → r ≡ idleIn n) ⌝ }
+    ensures { λ r. ⌜ LookedAt board (now (t .entry)) i r ⌝ }
 {
     if is_move(t, i) {
-        return 0;
+        return Looked { cell: 0, idle: 0 };
     }
-    if under_at(t, i) <= 2 {
-        return 0;
-    }
-    idle_at(t, board, i)
+    look(t, board, i)
 }
 
-// How many moves of the elusive sheet in the table aren't live, wherever they stand.
-fn idle_moves(t: &[u32], board: Board) -> usize
-    requires { ⌜ SomeElusive (now t) board ⌝ }
-    ensures { λ r. ⌜ ((s : Sheet) → HoldsSheet (now (t .entry)) board s → AllElusive s → r ≡ idleCount s) ⌝ }
+// 11: the first wait that is not elusive; or that all are, and how many moves aren't live, wherever they stand.
+pub fn not_elusive(t: &[u32], board: Board) -> Elusive
+    requires { ⌜ SomeSheet (now t) board ⌝ }
+    ensures { λ r. ⌜ ((s : Sheet) → HoldsSheet (now (t .entry)) board s → ElusiveFound s r) ⌝ }
 {
     let end = end_at(t, 0);
     let mut idle = 0;
     for i in 0..end {
-        idle += idle_under(t, board, i);
+        let w = look_at(t, board, i);
+        let cell = w.cell;
+        if cell != 0 {
+            return Elusive::Not {
+                node: i,
+                cell: cell as u32,
+            };
+        }
+        idle += w.idle;
     }
-    idle
+    Elusive::All { idle }
 }
 
 // Moves the move at node `from`, with all live moves under it, up to node `to`, and returns the node after it.
@@ -192,13 +200,14 @@ fn thin_wait(t: &mut [u32], board: Board, from: usize, to: usize) -> usize
         if common.spent {
             break;
         }
-        let m = look(t, board, next, common);
-        if m.live {
+        let own = cells_at(t, board, next);
+        let after = end_at(t, next);
+        if common.lives(board, own) {
+            common = common.narrowed(board, own);
             out = thin_move(t, board, next, out);
             kept += 1;
         }
-        next = m.next;
-        common = m.common;
+        next = after;
         j += 1;
     }
     set_node(t, to, 0, kept);
@@ -214,14 +223,12 @@ fn thin(t: &mut [u32], board: Board)
     weigh_move(t, 0);
 }
 
-// Takes the moves that aren't live out of the elusive sheet in the table, and returns how many there are, wherever they stand.
-pub fn keep_live(t: &mut [u32], board: Board) -> usize
-    requires { ⌜ SomeElusive (now t) board ⌝ }
-    ensures { λ r. ⌜ ((s : Sheet) → HoldsSheet (now (t .entry)) board s → AllElusive s → KeepsLive (now (t .exit)) board s r) ⌝ }
+// Takes the moves that aren't live out of the sheet in the table, given how many they are, wherever they stand.
+pub fn keep_live(t: &mut [u32], board: Board, idle: usize)
+    requires { ⌜ SomeSheet (now t) board ⌝ }
+    ensures { λ _. ⌜ ((s : Sheet) → HoldsSheet (now (t .entry)) board s → idle ≡ idleCount s → KeepsLive (now (t .exit)) board s idle) ⌝ }
 {
-    let idle = idle_moves(t, board);
     if idle != 0 {
         thin(t, board);
     }
-    idle
 }

@@ -2,23 +2,18 @@
 -- there, each of its waits has a move, and where every move is live it is the whole tree. How many the others are.
 use mathlib.Core.Path.{_≡_, refl, ap₂}
 use mathlib.Core.List.{List, [], _∷_, _++_, map}
-use mathlib.Core.Bool.{Bool, true, false, not, _&&_}
+use mathlib.Core.Bool.{Bool, true, false, not}
 use mathlib.Core.Logic.{_≢_, ⊎-elim}
-use mathlib.Core.Option.{none, some}
+use mathlib.Core.Option.{none}
 use Prim.Native.Nat.{ℕ, _+_, _≤_}
 use native.Mathlib.Nat.{mul-le-mul}
 use native.Mathlib.Omega.{arith}
-use lib.Dec.{T, eqb, eqb-refl, not-T}
 use lib.ListN.{length, length-append}
-use Rattle.rules.specs.Words.{_∈_, at-head, in-tail, any, total, oneIf}
+use Rattle.rules.specs.Words.{_∈_, at-head, in-tail, total, oneIf}
 use Rattle.rules.specs.Tree.{Waits, noWaits, wait, Moves, noMoves, move, Wait, Move, Sheet, stone, movesOfWaits, movesOfMoves, waitsOfWaits, waitsOfMoves, everyMove, everyWait, moveCount}
-use Rattle.rules.specs.Board.{isCell}
-use Rattle.rules.specs.Written.{howManyMoves}
-use Rattle.rules.specs.Fair.{inWaits, inMove, inEvery}
-use Rattle.rules.specs.Live.{cellsOfWaits, Shared, andThis, isLive, living, livingAfter, idleUnder, idleAt, idleCount}
+use Rattle.rules.specs.Live.{Shared, andThis, isLive, living, livingAfter, idleUnder, idleAt, idleCount}
 use Rattle.rules.specs.Outcomes.{outcomesOfWaits, outcomesOfMoves, countOfWaits, countOfMoves}
-use Rattle.rules.specs.declared.Board.{Board}
-use Rattle.rules.proofs.Tests.{both, left, twice, by-cond, one-yes, one-no}
+use Rattle.rules.proofs.Tests.{by-cond, one-yes}
 use Rattle.rules.proofs.EachOutcome.{Each, each-mono, each-append, each-front, each-back, each-map, each-unmap, each-with, each-without}
 use Rattle.rules.proofs.Lists.{in-both, in-first, in-second, all-cons, nothing-in}
 use Rattle.rules.proofs.Live.{a-move}
@@ -185,19 +180,3 @@ mutual
 pub idle-few : (s : Sheet) → idleCount s ≤ moveCount s
 unfolding idleCount moveCount everyWait everyMove
 idle-few s = omega (arith, idle-waits (s .root .waits))
-
--- two moves that no cell is in both of are live, and so is one
-abbrev pub FirstOn : Board → Moves → Type 0
-FirstOn b noMoves = Unit {0}
-FirstOn b (move line c ws ms) = T (isCell b c)
-
-pub two-live : (b : Board) (ms : Moves) → FirstOn b ms → ((x : ℕ) → T (isCell b x) → T (inEvery ms x) → ⊥) → howManyMoves ms ≤ 2 → idleUnder none ms ≡ 0
-unfolding idleUnder andThis isLive any howManyMoves inEvery inMove
-two-live b noMoves i e h = refl
-two-live b (move line c ws noMoves) i e h = omega (arith, one-no (not true) tt)
-two-live b (move line c ws (move line′ d us noMoves)) i e h =
-    let own : T (inMove c ws c) = left (eqb c c) (inWaits ws c) (eqb-refl c) in
-    let away : T (not (inMove d us c)) = not-T (inMove d us c) (λ k. e c i (both (inMove c ws c) (inMove d us c && true) own (both (inMove d us c) true k tt))) in
-    let live : T (isLive (some (c ∷ cellsOfWaits ws)) d us) = left (not (inMove d us c)) _ away in
-    omega (arith, one-no (not true) tt, one-no (not (isLive (some (c ∷ cellsOfWaits ws)) d us)) (twice (isLive (some (c ∷ cellsOfWaits ws)) d us) live))
-two-live b (move line c ws (move line′ d us (move line″ a vs ms))) i e h = absurd (omega arith)

@@ -26,13 +26,13 @@ loop-holds c = λ b. adding-starts moves-sum b _ _ (c .end-at .ensures)
 is-move-requires : tie.Need-is-move-requires Inv-loop μ-loop
 is-move-requires c κs =
     let s = c .before .before .before .before .pre in
-    node-room (adding-node moves-sum (c .before .loop .inv (s .0)) (omega arith) (s .1 .held) tt)
+    node-room (adding-node moves-sum (c .before .loop .inv (s .0)) (omega arith) (s .1 .held))
 
 add-moves : tie.Need-add-moves Inv-loop μ-loop
 add-moves c =
     let s = c .before .before .before .before .before .before .pre in
     let told = sym (c .before .is-move .ensures) ∙ c .if1 .taken in
-    omega (arith, adding-few moves-sum (c .before .before .before .loop .inv (s .0)) (omega arith) (one-here told) (s .1 .sheet) (s .1 .held) tt, s .1 .held .well .few-nodes)
+    omega (arith, adding-few moves-sum (c .before .before .before .loop .inv (s .0)) (omega arith) (one-here told) (s .1 .sheet) (s .1 .held), s .1 .held .well .few-nodes)
 
 add-i : tie.Need-add-i Inv-loop μ-loop
 add-i c = omega arith
@@ -50,7 +50,7 @@ loop-again c = λ b.
     (c .if1 .came)
 
 returns : tie.Need-returns Inv-loop μ-loop
-returns c = λ b s h. adding-done moves-sum (c .before .loop .inv b) (omega arith) s h tt
+returns c = λ b s h. adding-done moves-sum (c .before .loop .inv b) (omega arith) s h
 
 pub count-moves-spec : {M : Type 1} → statement M
 count-moves-spec = tie.close (tie.spec Inv-loop μ-loop end-at-requires loop-holds is-move-requires add-moves add-i loop-less loop-again returns)
