@@ -1,6 +1,6 @@
 -- A loop over the moves of a wait that looks at each: what was told of those before, and what is left. For any statement of these.
 use mathlib.Core.Path.{_≡_, refl, sym, ap, _∙_, subst}
-use mathlib.Core.Bool.{Bool, true, _&&_, and-true, true≢false}
+use mathlib.Core.Bool.{true, _&&_, and-true, true≢false}
 use mathlib.Core.Logic.{_⊎_, ⊎-elim}
 use mathlib.Core.List.{List}
 use mathlib.Core.Option.{none}
@@ -13,10 +13,9 @@ use Rattle.rules.specs.Live.{Shared, andThis, isLive, livingAfter, idleUnder}
 use Rattle.nodes.specs.Nodes.{Nodes, node, Kind, aWait, aMove, many, nodesOfWaits, nodesOfMoves, size}
 use Rattle.nodes.specs.Table.{Property, WeighedOn, At}
 use Rattle.nodes.proofs.Walk.{Walking}
-use Rattle.live.specs.Looking.{CommonIs, NoneBefore}
+use Rattle.live.specs.Looking.{CommonIs, NoneBefore, ToldAny}
 use Rattle.live.specs.declared.Common.{Common}
 use Rattle.live.proofs.Sharing.{spent-all, inAllBefore, spent-none}
-use Rattle.live.proofs.Looking.{Learnt}
 
 -- a statement of all moves of a wait, the cells common to those before, and those that are left
 abbrev pub Statement : Type 1
@@ -54,24 +53,25 @@ first-of c v a (move line d ws ms) e =
     record { line = line; waits = ws; others = ms; is = ap (λ x. move line x ws ms) (sym own); under = cc; after = cc }
 
 -- one more is looked at
-pub asked-again : {b : Board} {t : List ℕ} {z z′ : Common} {live : Bool} {next next′ : ℕ} (R R′ : Statement) → Learnt b t next z live next′ z′
+pub asked-again : {b : Board} {t : List ℕ} {z z′ : Common} {next : ℕ} (R R′ : Statement) → ToldAny b t next z z′
     → (c : ℕ) (v : Nodes) → At (WeighedOn b t) aMove next c v
     → ((ms : Moves) (before : Shared) (line : ℕ) (ws : Waits) (others : Moves) → At (WeighedOn b t) aMove next c (nodesOfWaits ws)
-    → live ≡ isLive before c ws → R ms before (move line c ws others) → R′ ms (andThis before c ws) others)
+    → z′ .live ≡ isLive before c ws → R ms before (move line c ws others) → R′ ms (andThis before c ws) others)
     → (u a : Nodes) → Asked b z R u (node c v a) → Asked b z′ R′ u a
-asked-again {b} {t} {z} {z′} {live} {next} R R′ learnt c v m step u a f = record { of = one }
+asked-again {b} {t} {z} {z′} {next} R R′ tells c v m step u a f = record { of = one }
   where
     one : (ms : Moves) → u ≡ nodesOfMoves ms → MovesLeft b z′ R′ ms a
     one ms e =
         let l = f .of ms e in
         let x = first-of c v a (l .moves) (l .are) in
         let at = subst (At (WeighedOn b t) aMove next c) (x .under) m in
+        let told = tells (l .before) c (x .waits) (l .common) at in
         record {
           before = andThis (l .before) c (x .waits);
           moves = x .others;
           are = x .after;
-          common = learnt .common-is (l .before) c (x .waits) (l .common) at;
-          holds = step ms (l .before) (x .line) (x .waits) (x .others) at (learnt .live-is (l .before) c (x .waits) (l .common) at) (subst (R ms (l .before)) (x .is) (l .holds));
+          common = told .common-is;
+          holds = step ms (l .before) (x .line) (x .waits) (x .others) at (told .live-is) (subst (R ms (l .before)) (x .is) (l .holds));
         }
 
 -- No move is left, or none that is left is live

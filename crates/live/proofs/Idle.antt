@@ -17,7 +17,7 @@ use Rattle.rules.proofs.Steps.{none≢some}
 use Rattle.rules.proofs.Living.{one-at-most}
 use Rattle.cells.proofs.Smallest.{smallest-same}
 use Rattle.nodes.specs.Nodes.{aWait}
-use Rattle.nodes.specs.Table.{underIn, isMoveAt, WeighedOn, SomeNode}
+use Rattle.nodes.specs.Table.{underIn, endIn, isMoveAt, WeighedOn, SomeNode}
 use Rattle.nodes.specs.Order.{TreeNode, isMove, isWait, waitsAmong}
 use Rattle.nodes.proofs.Order.{waits-of-waits}
 use Rattle.nodes.proofs.Walk.{Walking, walking-starts, walking-again}
@@ -25,11 +25,10 @@ use Rattle.fair.specs.Faults.{atWaits, WaitAt}
 use Rattle.fair.proofs.WhichKind.{of-move, of-wait, none-move}
 use Rattle.fair.proofs.Laid.{treeOf}
 use Rattle.fair.proofs.Adding.{Sum}
-use Rattle.live.specs.Looking.{NoneBefore, CommonIs, LeastAny, Told, LookedAny, LookedAt, idleIn}
+use Rattle.live.specs.Looking.{NoneBefore, CommonIs, ToldAny, LeastAny, Told, LookedAny, LookedAt, idleIn}
 use Rattle.live.specs.declared.Common.{Common}
 use Rattle.live.specs.declared.Looked.{Looked}
 use Rattle.live.proofs.Sharing.{inAllBefore, all-before}
-use Rattle.live.proofs.Looking.{Learnt}
 use Rattle.live.proofs.Asking.{Asked, asked-all, asked-again, Stops, asked-stop}
 
 -- ---- of a wait
@@ -41,11 +40,11 @@ pub record SoFar (idle : ℕ) (ms : Moves) (before : Shared) (rest : Moves) : Ty
   pub all-left : before ≡ none → rest ≡ ms
 
 -- one more, or none
-pub idle-more : (n : ℕ) (live : Bool) → live ≡ false → n + 1 ≡ n + oneIf (not live)
+pub idle-more : (n : ℕ) (live : Bool) → not live ≡ true → n + 1 ≡ n + oneIf (not live)
 unfolding oneIf
 idle-more n live e = rw e refl
 
-pub idle-same : (n : ℕ) (live : Bool) → live ≡ true → n ≡ n + oneIf (not live)
+pub idle-same : (n : ℕ) (live : Bool) → not live ≡ false → n ≡ n + oneIf (not live)
 unfolding oneIf
 idle-same n live e = rw e (sym (add-zero n))
 
@@ -69,20 +68,20 @@ counting-starts b t i under z e n =
 
 module _ {b : Board} {t : List ℕ} {i under next j : ℕ} {z : Common} {idle : ℕ} (w : Counting b t i under next j z idle) where
   -- one more is looked at
-  pub counting-again : j < under → SomeNode (WeighedOn b t) aWait i → {live : Bool} {next′ : ℕ} {z′ : Common} (idle′ : ℕ) → Learnt b t next z live next′ z′ → idle′ ≡ idle + oneIf (not live)
+  pub counting-again : j < under → SomeNode (WeighedOn b t) aWait i → {next′ : ℕ} {z′ : Common} (idle′ : ℕ) → ToldAny b t next z z′ → next′ ≡ endIn t next → idle′ ≡ idle + oneIf (not (z′ .live))
       → Counting b t i under next′ (j + 1) z′ idle′
-  counting-again p n {live} idle′ l e =
+  counting-again p n {next′} {z′} idle′ tells end e =
       record {
         walk = walking-again (w .walk) p n (λ c v m.
             record {
-              next-is = l .next-is c v m;
+              next-is = end ∙ m .here .weight .end;
               each = λ a s. s;
-              holds = asked-again (SoFar idle) (SoFar idle′) l c v m (λ ms before line ws others at is h. one-more ms before line ws others is h);
+              holds = asked-again (SoFar idle) (SoFar idle′) tells c v m (λ ms before line ws others at is h. one-more ms before line ws others is h);
             });
-        few = omega (arith, w .few, e, one-at-most (not live));
+        few = omega (arith, w .few, e, one-at-most (not (z′ .live)));
       }
     where
-      one-more : {c : ℕ} (ms : Moves) (before : Shared) (line : ℕ) (ws : Waits) (others : Moves) → live ≡ isLive before c ws
+      one-more : {c : ℕ} (ms : Moves) (before : Shared) (line : ℕ) (ws : Waits) (others : Moves) → z′ .live ≡ isLive before c ws
           → SoFar idle ms before (move line c ws others) → SoFar idle′ ms (andThis before c ws) others
       one-more {c} ms before line ws others is h =
           record {

@@ -1,6 +1,6 @@
 -- The loops over the waits of a move, and over the moves of a wait, that leave out the moves that aren't live.
 use mathlib.Core.Path.{_≡_, refl, sym, ap, subst, subst⁻¹, _∙_}
-use mathlib.Core.Bool.{Bool, true, false, not}
+use mathlib.Core.Bool.{true, false, not}
 use mathlib.Core.List.{List}
 use mathlib.Core.Option.{none}
 use Prim.Native.Nat.{ℕ, suc, _+_, _-_, _*_, _<_, _≤_}
@@ -15,10 +15,9 @@ use Rattle.nodes.specs.Nodes.{Nodes, noNodes, node, Kind, aWait, aMove, many, s
 use Rattle.nodes.specs.Table.{cellIn, underIn, endIn, withNode, Each, nothing, first, Stand, WeighedOn, At, SomeNode}
 use Rattle.nodes.proofs.Table.{each-map, at-map, Agree, agree-within, agree-then, row-agree, weighed-row-agree, stand-agree, stored-row, stored, node-end}
 use Rattle.nodes.proofs.Walk.{Walking, walking-starts, walking-again, walking-ends}
-use Rattle.live.specs.Looking.{NoneBefore}
+use Rattle.live.specs.Looking.{NoneBefore, ToldAny}
 use Rattle.live.specs.Thinning.{Within, MovedUp, StandsTo, MoveThinnedAny, WaitThinnedAny}
 use Rattle.live.specs.declared.Common.{Common}
-use Rattle.live.proofs.Looking.{Learnt}
 use Rattle.live.proofs.Asking.{Asked, asked-all, asked-again, Stops, Stopped, asked-stop, walk-within}
 
 no-nodes : {ms : Moves} → ms ≡ noMoves → nodesOfMoves ms ≡ noNodes
@@ -256,27 +255,27 @@ moves-starts b t from to under z e p n =
     }
 
 module _ {b : Board} {t₀ t : List ℕ} {from to under next out j : ℕ} {z : Common} {kept : ℕ} (w : MovesGoing b t₀ t from to under next out j z kept) where
-  module _ (p : j < under) (n : SomeNode (WeighedOn b t) aMove next) (s : SomeNode (WeighedOn b t₀) aWait from) {live : Bool} {next′ : ℕ} {z′ : Common} (l : Learnt b t next z live next′ z′) where
+  module _ (p : j < under) (n : SomeNode (WeighedOn b t) aMove next) (s : SomeNode (WeighedOn b t₀) aWait from) {next′ : ℕ} {z′ : Common} (tells : ToldAny b t next z z′) (end : next′ ≡ endIn t next) where
     further : next ≤ next′
-    further = omega (arith, l .next-is (n .cell) (n .under) (n .at))
+    further = omega (arith, end, n .at .here .weight .end)
 
     -- one more is live, and was thinned
-    pub moves-live : live ≡ true → {out′ kept′ : ℕ} {v : List ℕ} → MoveThinnedAny b t next out out′ v → kept′ ≡ kept + 1
+    pub moves-live : z′ .live ≡ true → {out′ kept′ : ℕ} {v : List ℕ} → MoveThinnedAny b t next out out′ v → kept′ ≡ kept + 1
         → MovesGoing b t₀ v from to under next′ out′ (j + 1) z′ kept′
     unfolding many
     moves-live e {out′} {kept′} {v} h k =
         record {
           walk = walking-again (w .walk) p s (λ c u m.
               record {
-                next-is = l .next-is c u m;
+                next-is = end ∙ m .here .weight .end;
                 each = λ a q. rows-agree (agree-after _ _ (omega (arith, m .here .weight .end)) (h .moved .kept)) q;
-                holds = asked-again (Kept t to out kept) (Kept v to out′ kept′) l c u m step;
+                holds = asked-again (Kept t to out kept) (Kept v to out′ kept′) tells c u m step;
               });
-          going = going-on further (w .going) (l .next-is (n .cell) (n .under) (n .at) ∙ sym (n .at .here .weight .end)) (h .moved);
+          going = going-on further (w .going) end (h .moved);
           few = omega (arith, w .few);
         }
       where
-        step : {c : ℕ} (ms : Moves) (before : Shared) (line : ℕ) (ws : Waits) (others : Moves) → At (WeighedOn b t) aMove next c (nodesOfWaits ws) → live ≡ isLive before c ws
+        step : {c : ℕ} (ms : Moves) (before : Shared) (line : ℕ) (ws : Waits) (others : Moves) → At (WeighedOn b t) aMove next c (nodesOfWaits ws) → z′ .live ≡ isLive before c ws
             → Kept t to out kept ms before (move line c ws others) → Kept v to out′ kept′ ms (andThis before c ws) others
         step {c} ms before line ws others at is f =
             let q = nodes-live before line c ws others (holds-of (sym is ∙ e)) in
@@ -286,20 +285,20 @@ module _ {b : Board} {t₀ t : List ℕ} {from to under next out j : ℕ} {z : C
             }
 
     -- or isn't, and is left out
-    pub moves-idle : live ≡ false → MovesGoing b t₀ t from to under next′ out (j + 1) z′ kept
+    pub moves-idle : z′ .live ≡ false → MovesGoing b t₀ t from to under next′ out (j + 1) z′ kept
     moves-idle e =
         record {
           walk = walking-again (w .walk) p s (λ c u m.
               record {
-                next-is = l .next-is c u m;
+                next-is = end ∙ m .here .weight .end;
                 each = λ a q. q;
-                holds = asked-again (Kept t to out kept) (Kept t to out kept) l c u m step;
+                holds = asked-again (Kept t to out kept) (Kept t to out kept) tells c u m step;
               });
           going = going-past further (w .going);
           few = omega (arith, w .few);
         }
       where
-        step : {c : ℕ} (ms : Moves) (before : Shared) (line : ℕ) (ws : Waits) (others : Moves) → At (WeighedOn b t) aMove next c (nodesOfWaits ws) → live ≡ isLive before c ws
+        step : {c : ℕ} (ms : Moves) (before : Shared) (line : ℕ) (ws : Waits) (others : Moves) → At (WeighedOn b t) aMove next c (nodesOfWaits ws) → z′ .live ≡ isLive before c ws
             → Kept t to out kept ms before (move line c ws others) → Kept t to out kept ms (andThis before c ws) others
         step {c} ms before line ws others at is f =
             let q = nodes-idle before line c ws others (subst (λ y. T (not y)) (sym e ∙ is) tt) in

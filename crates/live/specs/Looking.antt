@@ -1,6 +1,6 @@
 -- What looking at the moves of a wait tells: the cells that all of them share, which are live, and how many aren't.
 use mathlib.Core.Path.{_≡_}
-use mathlib.Core.Bool.{Bool, true, false}
+use mathlib.Core.Bool.{true, false}
 use mathlib.Core.List.{List}
 use mathlib.Core.Option.{none, some}
 use mathlib.Core.Logic.{_≢_}
@@ -10,23 +10,20 @@ use Rattle.rules.specs.declared.Board.{Board}
 use Rattle.rules.specs.Words.{among}
 use Rattle.rules.specs.Board.{smallest}
 use Rattle.rules.specs.Tree.{Waits, noMoves, Wait, Sheet}
-use Rattle.rules.specs.Fair.{inMove, notElusive, firstNotElusive}
+use Rattle.rules.specs.Fair.{notElusive, firstNotElusive}
 use Rattle.rules.specs.Live.{Shared, andThis, isLive, idleAt, idleCount}
 use Rattle.cells.specs.Cells.{held}
+use Rattle.nodes.specs.Nodes.{aMove, nodesOfWaits}
+use Rattle.nodes.specs.Table.{WeighedOn, At}
 use Rattle.nodes.specs.Order.{TreeNode, isMove, isWait}
 use Rattle.fair.specs.Faults.{atWaits, WaitAt, NodeAt, LeastAt, FaultFound}
-use Rattle.fair.specs.declared.Fault.the-variants.{At, Nothing}
+use Rattle.fair.specs.declared.Fault as answered
 use Rattle.live.specs.declared.Common.{Common}
 use Rattle.live.specs.declared.Elusive.{Elusive}
 use Rattle.live.specs.declared.Elusive.the-variants.{Not, All}
 use Rattle.live.specs.declared.Looked.{Looked}
 
 -- ---- the cells common to all moves before
-
--- a move's cells are those of a set, and 0 is none of them
-pub record CellsAre (b : Board) (rows : List ℕ) (c : ℕ) (ws : Waits) : Type 0 where
-  pub same : (x : ℕ) → 1 ≤ x → held b rows x ≡ inMove c ws x
-  pub no-zero : T (inMove c ws 0) → ⊥
 
 -- no move was before
 pub record NoneBefore (z : Common) : Type 0 where
@@ -44,12 +41,14 @@ abbrev pub CommonIs : Board → Common → Shared → Type 0
 CommonIs b z none = NoneBefore z
 CommonIs b z (some xs) = SomeBefore b z xs
 
--- whatever moves were before, and whatever move has the cells: whether it is live, and what is common with it
-abbrev pub LivesAny : Board → Common → (own : List ℕ) → Bool → Type 0
-LivesAny b z own r = (before : Shared) (c : ℕ) (ws : Waits) → CommonIs b z before → CellsAre b own c ws → r ≡ isLive before c ws
+-- what is told of one move more: whether it is live, and the cells that are common with it
+pub record MoveTold (b : Board) (before : Shared) (c : ℕ) (ws : Waits) (r : Common) : Type 0 where
+  pub live-is : r .live ≡ isLive before c ws
+  pub common-is : CommonIs b r (andThis before c ws)
 
-abbrev pub NarrowedAny : Board → Common → (own : List ℕ) → Common → Type 0
-NarrowedAny b z own r = (before : Shared) (c : ℕ) (ws : Waits) → CommonIs b z before → CellsAre b own c ws → CommonIs b r (andThis before c ws)
+-- so it is of the move that stands at node i, whatever it is, and whatever moves were before
+abbrev pub ToldAny : Board → List ℕ → ℕ → Common → Common → Type 0
+ToldAny b t i z r = (before : Shared) (c : ℕ) (ws : Waits) → CommonIs b z before → At (WeighedOn b t) aMove i c (nodesOfWaits ws) → MoveTold b before c ws r
 
 -- the smallest of the cells that are common to some moves
 abbrev pub LeastAny : Board → Common → ℕ → Type 0
@@ -77,5 +76,5 @@ pub record LookedAt (b : Board) (t : List ℕ) (i : ℕ) (r : Looked) : Type 0 w
 
 -- what 11 finds of a sheet: its fault, or none, and then how many of its moves aren't live
 abbrev pub ElusiveFound : Sheet → Elusive → Type 0
-ElusiveFound s (Not i c) = FaultFound s (firstNotElusive s) (At i c)
-ElusiveFound s (All idle) = FaultFound s (firstNotElusive s) Nothing × (idle ≡ idleCount s)
+ElusiveFound s (Not i c) = FaultFound s (firstNotElusive s) (answered.the-variants.At i c)
+ElusiveFound s (All idle) = FaultFound s (firstNotElusive s) answered.the-variants.Nothing × (idle ≡ idleCount s)

@@ -11,7 +11,7 @@ ghost use Rattle.nodes.specs.Nodes.{aWait, aMove};
 ghost use Rattle.nodes.specs.Table.{WeighedOn, SomeNode};
 ghost use Rattle.nodes.specs.Sheets.{HoldsSheet, HoldsLiving, SomeSheet};
 ghost use Rattle.fair.specs.Faults.{SomeTreeNode};
-ghost use Rattle.live.specs.Looking.{NoneBefore, LivesAny, NarrowedAny, LeastAny, LookedAny, LookedAt, ElusiveFound};
+ghost use Rattle.live.specs.Looking.{NoneBefore, ToldAny, LeastAny, LookedAny, LookedAt, ElusiveFound};
 ghost use Rattle.live.specs.Thinning.{MoveThinnedAny, WaitThinnedAny, KeepsLive};
 use cells::Cells;
 use nodes::cell_at;
@@ -29,8 +29,10 @@ pub enum Elusive {
     All { idle: usize },
 }
 
-// The cells common to all moves so far of a wait: whether there was one, and, once it is known, that none is left.
+// The cells common to all moves so far of a wait: whether the last of these is live, whether there was one, and, once it is known, that no
+// cell is left.
 struct Common {
+    live: bool,
     some: bool,
     spent: bool,
     cells: Cells,
@@ -42,35 +44,42 @@ impl Common {
         ensures { λ r. ⌜ NoneBefore r ⌝ }
     {
         Common {
+            live: false,
             some: false,
             spent: false,
             cells: Cells::empty(),
         }
     }
 
-    // Whether a move with these cells is live: it is the first, or some common cell isn't in it.
-    fn lives(self, board: Board, cells: Cells) -> bool
-        requires { ⌜ Fits board ⌝ }
-        ensures { λ r. ⌜ LivesAny board self (cells .rows) r ⌝ }
+    // With the move at node i: it is live if it is the first, or if some common cell isn't in it; if it isn't, it has all of them.
+    fn and_this(self, t: &[u32], board: Board, i: usize) -> Self
+        requires fits { ⌜ Fits board ⌝ }
+        requires stands { ⌜ SomeNode (WeighedOn board (now t)) aMove i ⌝ }
+        requires below { ⌜ 1 ≤ i ⌝ }
+        ensures { λ r. ⌜ ToldAny board (now (t .entry)) i self r ⌝ }
     {
-        !self.some || self.cells.exceeds(board, cells)
-    }
-
-    // The cells common to all moves so far and one with these cells.
-    fn narrowed(self, board: Board, cells: Cells) -> Self
-        requires { ⌜ Fits board ⌝ }
-        ensures { λ r. ⌜ NarrowedAny board self (cells .rows) r ⌝ }
-    {
+        let cells = self.cells;
+        let own = cells_at(t, board, i);
         if !self.some {
             return Common {
+                live: true,
                 some: true,
                 spent: false,
+                cells: own,
+            };
+        }
+        if !cells.exceeds(board, own) {
+            return Common {
+                live: false,
+                some: true,
+                spent: self.spent,
                 cells,
             };
         }
-        let both = self.cells.meet(cells);
+        let both = cells.meet(own);
         let left = both.exceeds(board, Cells::empty());
         Common {
+            live: true,
             some: true,
             spent: !left,
             cells: both,
@@ -110,11 +119,9 @@ fn look(t: &[u32], board: Board, i: usize) -> Looked
         if common.spent {
             break;
         }
-        let own = cells_at(t, board, next);
+        common = common.and_this(t, board, next);
         next = end_at(t, next);
-        if common.lives(board, own) {
-            common = common.narrowed(board, own);
-        } else {
+        if !common.live {
             idle += 1;
         }
         j += 1;
@@ -200,10 +207,9 @@ fn thin_wait(t: &mut [u32], board: Board, from: usize, to: usize) -> usize
         if common.spent {
             break;
         }
-        let own = cells_at(t, board, next);
         let after = end_at(t, next);
-        if common.lives(board, own) {
-            common = common.narrowed(board, own);
+        common = common.and_this(t, board, next);
+        if common.live {
             out = thin_move(t, board, next, out);
             kept += 1;
         }

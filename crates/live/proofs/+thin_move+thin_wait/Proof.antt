@@ -8,7 +8,6 @@ use borrow.Author.Needs.{needs}
 use Rattle.rules.specs.Board.{cells}
 use Rattle.cells.proofs.Places.{few-cells}
 use Rattle.nodes.proofs.Walk.{walking-child}
-use Rattle.live.proofs.Looking.{learnt-live, learnt-idle}
 use Rattle.live.proofs.Thinning.{under-few, WaitsGoing, waits-starts, waits-again, waits-done, MovesGoing, moves-starts, moves-live, moves-idle, moves-done}
 use borrow.Fn.Kinds.{In}
 use borrow.Fn.PlainCycle.{Measures, is, falls, and}
@@ -19,9 +18,7 @@ use Rattle.live.proofs.thin_wait.Reads as thin-wait
 use Rattle.live.proofs.thin_wait.Kinds as thin-wait-kinds
 use Rattle.live.proofs.+thin_move+thin_wait.Lts-thin_wait as w-lts
 use Rattle.live.proofs.Common.none.Reads as none-reads
-use Rattle.live.proofs.Common.lives.Reads as lives-reads
-use Rattle.live.proofs.Common.narrowed.Reads as narrowed-reads
-use Rattle.nodes.proofs.cells_at.Reads as cells-at-reads
+use Rattle.live.proofs.Common.and_this.Reads as and-this-reads
 use Rattle.nodes.proofs.cell_at.Reads as cell-at-reads
 use Rattle.nodes.proofs.end_at.Reads as end-at-reads
 use Rattle.nodes.proofs.set_node.Reads as set-node-reads
@@ -51,7 +48,7 @@ abbrev M : ℕ → m-lts.Claims
 M t = (under-at-reads.Asked, under-at-reads.Learnt, cell-at-reads.Asked, cell-at-reads.Learnt, end-at-reads.Asked, end-at-reads.Learnt, w-below t, thin-wait.Post, set-node-reads.Asked, set-node-reads.Learnt)
 
 abbrev W : ℕ → w-lts.Claims
-W t = (under-at-reads.Asked, under-at-reads.Learnt, none-reads.Asked, none-reads.Learnt, cells-at-reads.Asked, cells-at-reads.Learnt, end-at-reads.Asked, end-at-reads.Learnt, lives-reads.Asked, lives-reads.Learnt, narrowed-reads.Asked, narrowed-reads.Learnt, m-below t, thin-move.Post, set-node-reads.Asked, set-node-reads.Learnt)
+W t = (under-at-reads.Asked, under-at-reads.Learnt, none-reads.Asked, none-reads.Learnt, end-at-reads.Asked, end-at-reads.Learnt, and-this-reads.Asked, and-this-reads.Learnt, m-below t, thin-move.Post, set-node-reads.Asked, set-node-reads.Learnt)
 
 abbrev m-Inv : m-lts.InvT-loop
 m-Inv t₀ board from to under cell next₀ out₀ j₀ t next out j = WaitsGoing board t₀ t from to under next out j
@@ -146,34 +143,29 @@ module _ (t : ℕ) where
   w-loop-holds : w-lts.Need-loop-holds (W t) (w-at t) thin-wait.Post w-Inv w-μ
   w-loop-holds c = moves-starts _ _ _ _ _ _ (c .before .under-at .ensures) (c .before .before .before .before .pre .1 .1 .1 .1) (c .none .ensures)
 
-  w-cells-at-requires : w-lts.Need-cells-at-requires (W t) (w-at t) thin-wait.Post w-Inv w-μ
-  w-cells-at-requires c κs =
-      let p = c .before .before .before .before .before .before .before .before .pre .1 in
-      (p .0, (_, walking-child (c .before .before .before .loop .inv .walk) (omega arith) (p .1 .0)))
-
   w-end-at-requires : w-lts.Need-end-at-requires (W t) (w-at t) thin-wait.Post w-Inv w-μ
   w-end-at-requires c κs =
-      let n = walking-child (c .before .before .before .before .before .loop .inv .walk) (omega arith) (c .before .before .before .before .before .before .before .before .before .before .pre .1 .1 .0) in
+      let n = walking-child (c .before .before .before .loop .inv .walk) (omega arith) (c .before .before .before .before .before .before .before .before .pre .1 .1 .0) in
       n .at .here .weight .row .room
 
-  w-lives-requires : w-lts.Need-lives-requires (W t) (w-at t) thin-wait.Post w-Inv w-μ
-  w-lives-requires c κs = c .before .before .before .before .before .before .before .before .before .before .before .pre .1 .0
-
-  w-narrowed-requires : w-lts.Need-narrowed-requires (W t) (w-at t) thin-wait.Post w-Inv w-μ
-  w-narrowed-requires c κs = c .before .before .before .before .before .before .before .before .before .before .before .before .before .pre .1 .0
+  w-and-this-requires : w-lts.Need-and-this-requires (W t) (w-at t) thin-wait.Post w-Inv w-μ
+  w-and-this-requires c κs =
+      let p = c .before .before .before .before .before .before .before .before .before .before .pre .1 in
+      let w = c .before .before .before .before .before .loop .inv .walk in
+      (p .0, (walking-child w (omega arith) (p .1 .0), omega (arith, w .on)))
 
   w-thin-move-requires : w-lts.Need-thin-move-requires (W t) (w-at t) thin-wait.Post w-Inv w-μ
   w-thin-move-requires c κs =
-      let g = c .before .before .before .before .before .before .before .before .before .before .loop .inv in
-      let p = c .before .before .before .before .before .before .before .before .before .before .before .before .before .before .before .pre in
+      let g = c .before .before .before .before .before .before .before .before .loop .inv in
+      let p = c .before .before .before .before .before .before .before .before .before .before .before .before .before .pre in
       let n = walking-child (g .walk) (omega arith) (p .1 .1 .0) in
       (omega (arith, n .at .here .weight .row .room, g .walk .on, g .going .kept .long, p .0), (p .1 .0, (n, (omega (arith, g .going .kept .long, p .1 .1 .1 .0), g .going .behind))))
 
   w-add-kept : w-lts.Need-add-kept (W t) (w-at t) thin-wait.Post w-Inv w-μ
   w-add-kept c =
-      let g = c .before .before .before .before .before .before .before .before .before .before .before .before .before .loop .inv in
-      let p = c .before .before .before .before .before .before .before .before .before .before .before .before .before .before .before .before .before .before .pre .1 .1 in
-      omega (arith, g .few, g .walk .turns, c .before .before .before .before .before .before .before .before .before .before .before .before .before .before .before .under-at .ensures, under-few (p .0), p .1 .0)
+      let g = c .before .before .before .before .before .before .before .before .before .before .before .loop .inv in
+      let p = c .before .before .before .before .before .before .before .before .before .before .before .before .before .before .before .before .pre .1 .1 in
+      omega (arith, g .few, g .walk .turns, c .before .before .before .before .before .before .before .before .before .before .before .before .before .under-at .ensures, under-few (p .0), p .1 .0)
 
   w-add-j : w-lts.Need-add-j (W t) (w-at t) thin-wait.Post w-Inv w-μ
   w-add-j c = omega arith
@@ -183,15 +175,14 @@ module _ (t : ℕ) where
 
   w-loop-again : w-lts.Need-loop-again (W t) (w-at t) thin-wait.Post w-Inv w-μ
   w-loop-again c =
-      let g = c .before .before .before .before .before .before .before .before .loop .inv in
-      let p = c .before .before .before .before .before .before .before .before .before .before .before .before .before .pre .1 .1 in
+      let g = c .before .before .before .before .before .before .before .loop .inv in
+      let p = c .before .before .before .before .before .before .before .before .before .before .before .before .pre .1 .1 in
       let n = walking-child (g .walk) (omega arith) (p .0) in
-      let own = c .before .before .before .before .cells-at .ensures in
-      let end = c .before .before .end-at .ensures in
-      let lives = c .before .lives .ensures in
+      let m = c .before .and-this .ensures in
+      let end = c .before .before .before .end-at .ensures in
       ⊎-elim
-      (λ y. rw (y .6, y .7, y .8, y .9) (moves-live g (omega arith) n (p .0) (learnt-live _ (omega (arith, g .walk .on)) end own lives (y .0 .taken) (y .1 .ensures)) (y .0 .taken) (y .3 .ensures) refl))
-      (λ y. rw (y .1, y .2, y .3, y .4) (moves-idle g (omega arith) n (p .0) (learnt-idle _ (omega (arith, g .walk .on)) end own lives (y .0 .left)) (y .0 .left)))
+      (λ y. rw (y .5, y .6, y .7) (moves-live g (omega arith) n (p .0) m end (y .0 .taken) (y .2 .ensures) refl))
+      (λ y. rw (y .1, y .2, y .3) (moves-idle g (omega arith) n (p .0) m end (y .0 .left)))
       (c .if2 .came)
 
   w-set-node-requires : w-lts.Need-set-node-requires (W t) (w-at t) thin-wait.Post w-Inv w-μ
@@ -212,4 +203,4 @@ pub +thin-move+thin-wait-spec : {M : Type 1} → statement M
 +thin-move+thin-wait-spec =
     close μ-m μ-w
     (λ t. m-lts.spec (M t) (m-at t) thin-move.Post m-Inv m-μ (m-under-at-requires t) (m-cell-at-requires t) (m-add-next t) (m-add-out t) (m-loop-holds t) (m-end-at-requires t) (m-thin-wait-requires t) (m-add-j t) (m-loop-less t) (m-loop-again t) (m-cast-set-node t) (m-cast-set-node-2 t) (m-set-node-requires t) (m-same-length t) (m-returns t))
-    (λ t. w-lts.spec (W t) (w-at t) thin-wait.Post w-Inv w-μ (w-under-at-requires t) (w-none-requires t) (w-add-next t) (w-add-out t) (w-loop-holds t) (w-cells-at-requires t) (w-end-at-requires t) (w-lives-requires t) (w-narrowed-requires t) (w-thin-move-requires t) (w-add-kept t) (w-add-j t) (w-loop-less t) (w-loop-again t) (w-set-node-requires t) (w-same-length t) (w-returns t))
+    (λ t. w-lts.spec (W t) (w-at t) thin-wait.Post w-Inv w-μ (w-under-at-requires t) (w-none-requires t) (w-add-next t) (w-add-out t) (w-loop-holds t) (w-end-at-requires t) (w-and-this-requires t) (w-thin-move-requires t) (w-add-kept t) (w-add-j t) (w-loop-less t) (w-loop-again t) (w-set-node-requires t) (w-same-length t) (w-returns t))
