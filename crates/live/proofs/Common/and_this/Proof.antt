@@ -1,5 +1,4 @@
 -- The first move is live; a later one where some common cell isn't in it.
-use mathlib.Core.Path.{_≡_}
 use borrow.Author.Needs.{needs}
 use Rattle.live.proofs.Sharing.{unset, is-set, told-first, told-idle, told-live}
 use Rattle.live.proofs.Looking.{move-cells}
