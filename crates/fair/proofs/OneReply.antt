@@ -1,6 +1,6 @@
 -- A search tells one fault of a sheet: two answers that the contracts of `on_set_up`, `not_apart` and `branch_twice` allow are equal.
 use mathlib.Core.Path.{_≡_, refl, sym, ap, ap₂, _∙_}
-use mathlib.Core.Option.{Option, none, some}
+use mathlib.Core.Option.{Option}
 use Prim.Native.Nat.{_+_}
 use native.Mathlib.Omega.{arith}
 use Rattle.rules.specs.Tree.{Sheet}

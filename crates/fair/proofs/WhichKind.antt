@@ -10,7 +10,7 @@ use lib.Dec.{T, eqb, eqb→eq}
 use lib.ListN.{length}
 use borrow.Author.Tests.{eq-eqb, ne-eqb}
 use Rattle.rules.specs.declared.Board.{Board}
-use Rattle.rules.specs.Tree.{Waits, noWaits, wait, Moves, noMoves, move, Wait, Move}
+use Rattle.rules.specs.Tree.{Waits, noWaits, wait, noMoves, Wait, Move}
 use Rattle.rules.specs.Words.{twice}
 use Rattle.rules.specs.Board.{isCell, smallest}
 use Rattle.rules.specs.Fair.{inWaits, holding, notApart, branches}
@@ -67,15 +67,9 @@ module _ {b : Board} {t : List ℕ} {i : ℕ} where
   pub some-move : isMoveAt t i ≡ true → SomeTreeNode b t i → SomeNode (RowOn b t) aMove i
   some-move e n = of-move e (λ _. SomeNode (RowOn b t) aMove i) (λ m a. record { cell = m .cell; under = nodesOfWaits (m .waits); at = a }) (n .node) (n .at)
 
-  pub some-wait : isMoveAt t i ≡ false → SomeTreeNode b t i → SomeNode (WeighedOn b t) aWait i × (1 ≤ underIn t i)
+  pub some-wait : isMoveAt t i ≡ false → SomeTreeNode b t i → SomeNode (WeighedOn b t) aWait i
   some-wait e n =
-      of-wait e (λ _. SomeNode (WeighedOn b t) aWait i × (1 ≤ underIn t i))
-      (λ w a g. (record { cell = 0; under = nodesOfMoves (w .moves); at = a }, omega (arith, a .here .weight .row .under, some-many (w .moves) g)))
-      (n .node) (n .at)
-    where
-      some-many : (ms : Moves) → ms ≢ noMoves → 1 ≤ many (nodesOfMoves ms)
-      some-many noMoves g = absurd (g refl)
-      some-many (move line c ws ms) g = unfold many nodesOfWaits in omega arith
+      of-wait e (λ _. SomeNode (WeighedOn b t) aWait i) (λ w a g. record { cell = 0; under = nodesOfMoves (w .moves); at = a }) (n .node) (n .at)
 
   pub node-room : SomeTreeNode b t i → 4 * i + 3 < length t
   node-room n = go (n .at)

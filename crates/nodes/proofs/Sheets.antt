@@ -52,9 +52,6 @@ module _ {t : List ℕ} {b : Board} {s : Sheet} (h : HoldsSheet t b s) where
   pub sheet-cells : (m : Move) → m ∈ movesOfWaits (s .root .waits) → T (isCell b (m .cell))
   sheet-cells = subst (λ (z : Board). (m : Move) → m ∈ movesOfWaits (s .root .waits) → T (isCell z (m .cell))) (h .on) (h .well .on-board)
 
-  pub sheet-on-board : At (RowOn b t) aMove 0 (s .root .cell) (nodesOfWaits (s .root .waits))
-  sheet-on-board = tree-on-board h sheet-cells
-
   pub sheet-weighed : At (WeighedOn b t) aMove 0 (s .root .cell) (nodesOfWaits (s .root .waits))
   sheet-weighed = tree-weighed h sheet-cells
 

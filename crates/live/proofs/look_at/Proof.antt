@@ -14,7 +14,7 @@ returns c = move-told (sym (c .before .is-move .ensures) ∙ c .if1 .taken)
 look-requires : tie.Need-look-requires
 look-requires c κs =
     let p = c .before .before .before .pre in
-    (p .0, some-wait (sym (c .before .is-move .ensures) ∙ c .if1 .left) (p .1) .0)
+    (p .0, some-wait (sym (c .before .is-move .ensures) ∙ c .if1 .left) (p .1))
 
 returns-2 : tie.Need-returns-2
 returns-2 c = wait-told (sym (c .before .before .is-move .ensures) ∙ c .before .if1 .left) (c .look .ensures)
