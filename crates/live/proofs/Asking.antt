@@ -10,12 +10,13 @@ use Rattle.rules.specs.declared.Board.{Board}
 use Rattle.rules.specs.Tree.{Waits, Moves, noMoves, move}
 use Rattle.rules.specs.Fair.{inEvery}
 use Rattle.rules.specs.Live.{Shared, andThis, isLive, livingAfter, idleUnder}
+use Rattle.rules.proofs.Live.{inAllBefore}
 use Rattle.nodes.specs.Nodes.{Nodes, node, Kind, aWait, aMove, many, nodesOfWaits, nodesOfMoves, size}
 use Rattle.nodes.specs.Table.{Property, WeighedOn, At}
 use Rattle.nodes.proofs.Walk.{Walking}
 use Rattle.live.specs.Looking.{CommonIs, NoneBefore, ToldAny}
 use Rattle.live.specs.declared.Common.{Common}
-use Rattle.live.proofs.Sharing.{spent-all, inAllBefore, spent-none}
+use Rattle.live.proofs.Sharing.{spent-all, spent-none}
 
 -- a statement of all moves of a wait, the cells common to those before, and those that are left
 abbrev pub Statement : Type 1
@@ -78,22 +79,20 @@ asked-again {b} {t} {z} {z′} {next} R R′ tells c v m step u a f = record { o
 abbrev pub Stops : (z : Common) → (under j : ℕ) → Type 0
 Stops z under j = (under ≤ j) ⊎ (z .spent ≡ true)
 
+-- none of these is live, and no cell but those common to the moves before is in every move
+pub record Over (before : Shared) (ms : Moves) : Type 0 where
+  pub none-live : livingAfter before ms ≡ noMoves
+  pub all-idle : idleUnder before ms ≡ many (nodesOfMoves ms)
+  pub none-before : before ≡ none → ms ≡ noMoves
+  pub in-all : (x : ℕ) → (inAllBefore before x && inEvery ms x) ≡ inAllBefore before x
+
 pub record Stopped (b : Board) (z : Common) (R : Statement) (ms : Moves) (left : ℕ) : Type 0 where
   pub before : Shared
   pub moves : Moves
   pub common : CommonIs b z before
   pub holds : R ms before moves
-  pub none-live : livingAfter before moves ≡ noMoves
-  pub all-idle : idleUnder before moves ≡ left
-  pub none-before : before ≡ none → moves ≡ noMoves
-  pub in-all : (x : ℕ) → (inAllBefore before x && inEvery moves x) ≡ inAllBefore before x
-
--- as it is where none is left, and where none that is left is live
-record Over (before : Shared) (ms : Moves) : Type 0 where
-  none-live : livingAfter before ms ≡ noMoves
-  all-idle : idleUnder before ms ≡ many (nodesOfMoves ms)
-  none-before : before ≡ none → ms ≡ noMoves
-  in-all : (x : ℕ) → (inAllBefore before x && inEvery ms x) ≡ inAllBefore before x
+  pub over : Over before moves
+  pub many-left : many (nodesOfMoves moves) ≡ left
 
 no-more : (before : Shared) (ms : Moves) → many (nodesOfMoves ms) ≡ 0 → Over before ms
 unfolding livingAfter idleUnder nodesOfMoves many inEvery
@@ -118,16 +117,7 @@ module _ {P : Property} {b : Board} {t : List ℕ} {i under next j : ℕ} {z : C
       let same : many (nodesOfMoves (k .moves)) ≡ under - j = ap many (sym (k .are)) ∙ l .many-left in
       let d : Over (k .before) (k .moves) =
       ⊎-elim (λ p. no-more (k .before) (k .moves) (omega (arith, same))) (λ e. none-more b z e (k .before) (k .common) (k .moves)) stop in
-      record {
-        before = k .before;
-        moves = k .moves;
-        common = k .common;
-        holds = k .holds;
-        none-live = d .none-live;
-        all-idle = d .all-idle ∙ same;
-        none-before = d .none-before;
-        in-all = d .in-all;
-      }
+      record { before = k .before; moves = k .moves; common = k .common; holds = k .holds; over = d; many-left = same }
 
 -- it is no further than the wait goes
 pub walk-within : {P Q : Property} {k : Kind} {i under next j c : ℕ} {u : Nodes} {R : Nodes → Nodes → Type 0} → Walking P Q k i under next j R → At P k i c u → next ≤ i + 1 + size u

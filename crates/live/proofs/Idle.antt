@@ -14,6 +14,7 @@ use Rattle.rules.specs.Tree.{Waits, Moves, noMoves, move, Wait, Sheet, everyWai
 use Rattle.rules.specs.Fair.{inMove, inEvery, notElusive}
 use Rattle.rules.specs.Live.{Shared, andThis, isLive, idleUnder, idleAt, idleCount}
 use Rattle.rules.proofs.Steps.{none≢some}
+use Rattle.rules.proofs.Live.{inAllBefore, all-before}
 use Rattle.rules.proofs.Living.{one-at-most}
 use Rattle.cells.proofs.Smallest.{smallest-same}
 use Rattle.nodes.specs.Nodes.{aWait}
@@ -28,7 +29,6 @@ use Rattle.fair.proofs.Adding.{Sum}
 use Rattle.live.specs.Looking.{NoneBefore, CommonIs, ToldAny, LeastAny, Told, LookedAny, LookedAt, idleIn}
 use Rattle.live.specs.declared.Common.{Common}
 use Rattle.live.specs.declared.Looked.{Looked}
-use Rattle.live.proofs.Sharing.{inAllBefore, all-before}
 use Rattle.live.proofs.Asking.{Asked, asked-all, asked-again, Stops, asked-stop}
 
 -- ---- of a wait
@@ -99,8 +99,8 @@ module _ {b : Board} {t : List ℕ} {i under next j : ℕ} {z : Common} {idle : 
   counting-done p {cell} least v a some-move =
       let d = asked-stop (w .walk) p (v .moves) a in
       record {
-        cell-is = smallest-of (d .before) (d .common) (λ x. d .holds .in-every x ∙ d .in-all x) (λ q. some-move (sym (d .holds .all-left q) ∙ d .none-before q));
-        idle-is = omega (arith, d .holds .so-many, d .all-idle);
+        cell-is = smallest-of (d .before) (d .common) (λ x. d .holds .in-every x ∙ d .over .in-all x) (λ q. some-move (sym (d .holds .all-left q) ∙ d .over .none-before q));
+        idle-is = omega (arith, d .holds .so-many, d .over .all-idle, d .many-left);
       }
     where
       smallest-of : (before : Shared) → CommonIs b z before → ((x : ℕ) → inEvery (v .moves) x ≡ inAllBefore before x) → (before ≢ none) → cell ≡ smallest b (notElusive v)

@@ -14,9 +14,9 @@ use Rattle.rules.specs.Board.{smallest}
 use Rattle.rules.specs.Tree.{Waits, Moves, noMoves, move}
 use Rattle.rules.specs.Fair.{inMove}
 use Rattle.rules.specs.Live.{Shared, andThis, isLive, livingAfter, idleUnder}
-use Rattle.rules.proofs.Tests.{false-of, same-test, both, fst, snd}
+use Rattle.rules.proofs.Tests.{false-of, same-test, decide, both, fst, snd, turned}
 use Rattle.rules.proofs.Lists.{keep-in, in-keep, any-some, some-any}
-use Rattle.rules.proofs.Live.{move-listed}
+use Rattle.rules.proofs.Live.{move-listed, inAllBefore}
 use Rattle.rules.proofs.Smallest.{smallest-zero}
 use Rattle.rules.proofs.Places.{cell-range}
 use Rattle.cells.specs.Cells.{held, someBeyond}
@@ -30,18 +30,6 @@ use Rattle.live.specs.declared.Common.{Common}
 
 clash : {A : Type 0} {y : Bool} → y ≡ true → y ≡ false → A
 clash p q = absurd (true≢false (sym p ∙ q))
-
-pub unset : (y : Bool) → not y ≡ true → y ≡ false
-unset true e = sym e
-unset false e = refl
-
-pub is-set : (y : Bool) → not y ≡ false → y ≡ true
-is-set true e = refl
-is-set false e = sym e
-
-by-not : (y : Bool) → (T (not y) → ⊥) → T y
-by-not true f = tt
-by-not false f = absurd (f tt)
 
 -- what is listed is at least 1 where 0 is not
 listed-pos : (xs : List ℕ) (x : ℕ) → (T (among xs 0) → ⊥) → T (among xs x) → 1 ≤ x
@@ -106,7 +94,7 @@ module _ (b : Board) (z : Common) (own : Cells) (c : ℕ) (ws : Waits) (k : Cell
               none-left = λ q x m.
                   let pos = listed-pos xs x (h .no-zero) (keep-in (inMove c ws) x xs m .0) in
                   let some = some-beyond b (more .rows) empty x (subst⁻¹ T (same x pos) m) (λ i. subst T (none-there x) i) in
-                  subst T (sym l ∙ unset left q) some;
+                  subst T (sym l ∙ turned q) some;
             };
       }
     where
@@ -135,7 +123,7 @@ idle-still b z xs h c ws e =
     was x m = keep-in (inMove c ws) x xs m .0
 
     is-in : (x : ℕ) → T (among xs x) → T (inMove c ws x)
-    is-in x m = by-not (inMove c ws x) (λ o. subst T e (some-any (λ y. not (inMove c ws y)) x xs m o))
+    is-in x m = ⊎-elim (λ i. i) (λ o. absurd (subst T e (some-any (λ y. not (inMove c ws y)) x xs m o))) (decide (inMove c ws x))
 
 pub told-idle : (b : Board) (z : Common) (own : Cells) (c : ℕ) (ws : Waits) → CellsAre b (own .rows) c ws → z .some ≡ true → {r : Bool} → r ≡ someBeyond b (z .cells .rows) (own .rows) → r ≡ false
     → (before : Shared) → CommonIs b z before → MoveTold b before c ws (record { live = false; some = true; spent = z .spent; cells = z .cells })
@@ -161,23 +149,7 @@ module _ (b : Board) (z : Common) (e : z .spent ≡ true) where
       let rest = spent-all (some (keep (inMove c ws) xs)) (idle-still b z xs h c ws idle) ms in
       (rw idle (rest .0), rw idle (omega (arith, rest .1)))
 
--- ---- the cells that are in every move
-
--- x is in all moves before
-abbrev pub inAllBefore : Shared → ℕ → Bool
-inAllBefore none x = true
-inAllBefore (some xs) x = among xs x
-
--- and in one move more
-pub all-before : (before : Shared) (c : ℕ) (ws : Waits) (x : ℕ) → inAllBefore (andThis before c ws) x ≡ (inAllBefore before x && inMove c ws x)
-unfolding andThis
-all-before none c ws x = move-listed c ws x
-all-before (some xs) c ws x =
-    same-test (among (keep (inMove c ws) xs) x) (among xs x && inMove c ws x)
-    (λ m. let f = keep-in (inMove c ws) x xs m in both (among xs x) (inMove c ws x) (f .0) (f .1))
-    (λ m. in-keep (inMove c ws) x xs (snd (among xs x) (inMove c ws x) m) (fst (among xs x) (inMove c ws x) m))
-
--- none is where none is left
+-- where none is left, none is common
 pub spent-none : (b : Board) (z : Common) → z .spent ≡ true → (before : Shared) → CommonIs b z before → (x : ℕ) → inAllBefore before x ≡ false
 spent-none b z e none h x = clash e (h .none-spent)
 spent-none b z e (some xs) h x = false-of (among xs x) (h .none-left e x)

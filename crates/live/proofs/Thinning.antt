@@ -318,6 +318,6 @@ module _ {b : Board} {t₀ t : List ℕ} {from to under next out j : ℕ} {z : C
     where
       done : (ms : Moves) → Stopped b z (Kept t to out kept) ms (under - j) → StandsTo (withNode t to 0 kept) aWait to 0 (nodesOfMoves (livingAfter none ms)) out
       done ms d =
-          let none-left = no-nodes (d .none-live) in
+          let none-left = no-nodes (d .over .none-live) in
           let many-left : many (nodesOfMoves (livingAfter (d .before) (d .moves))) ≡ 0 = ap many none-left ∙ none-many in
           built-all 0 kept room (omega (arith, d .holds .many-kept, many-left)) (subst (Built t aMove to out (nodesOfMoves (livingAfter none ms))) none-left (d .holds .built)) refl

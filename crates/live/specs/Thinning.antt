@@ -9,7 +9,7 @@ use Rattle.rules.specs.Tree.{Waits, Moves, Sheet}
 use Rattle.rules.specs.Live.{living, livingAfter, idleCount}
 use Rattle.nodes.specs.Nodes.{Nodes, Kind, aWait, aMove, nodesOfWaits, nodesOfMoves, size}
 use Rattle.nodes.specs.Table.{endIn, Row, WeighedOn, At}
-use Rattle.nodes.specs.Sheets.{HoldsLiving}
+use Rattle.nodes.specs.Sheets.{HoldsSheet, HoldsLiving}
 
 -- the tables differ at most at the nodes from `to` up to `next`
 pub record Within (t v : List ℕ) (to next : ℕ) : Type 0 where
@@ -36,6 +36,12 @@ pub record MoveThinnedAny (b : Board) (t : List ℕ) (from to out : ℕ) (v : Li
 pub record WaitThinnedAny (b : Board) (t : List ℕ) (from to out : ℕ) (v : List ℕ) : Type 0 where
   pub moved : MovedUp t v from to out
   pub thinned : (ms : Moves) → At (WeighedOn b t) aWait from 0 (nodesOfMoves ms) → StandsTo v aWait to 0 (nodesOfMoves (livingAfter none ms)) out
+
+-- some sheet is held, and so many of its moves aren't live
+pub record SomeIdle (t : List ℕ) (b : Board) (idle : ℕ) : Type 0 where
+  pub sheet : Sheet
+  pub held : HoldsSheet t b sheet
+  pub idle-is : idle ≡ idleCount sheet
 
 -- the sheet is held without its moves that aren't live, which are so many
 pub record KeepsLive (t : List ℕ) (b : Board) (s : Sheet) (idle : ℕ) : Type 0 where

@@ -12,7 +12,7 @@ ghost use Rattle.nodes.specs.Table.{WeighedOn, SomeNode};
 ghost use Rattle.nodes.specs.Sheets.{HoldsSheet, HoldsLiving, SomeSheet};
 ghost use Rattle.fair.specs.Faults.{SomeTreeNode};
 ghost use Rattle.live.specs.Looking.{NoneBefore, ToldAny, LeastAny, LookedAny, LookedAt, ElusiveFound};
-ghost use Rattle.live.specs.Thinning.{MoveThinnedAny, WaitThinnedAny, KeepsLive};
+ghost use Rattle.live.specs.Thinning.{MoveThinnedAny, WaitThinnedAny, SomeIdle, KeepsLive};
 use cells::Cells;
 use nodes::cell_at;
 use nodes::cells_at;
@@ -231,7 +231,7 @@ fn thin(t: &mut [u32], board: Board)
 
 // Takes the moves that aren't live out of the sheet in the table, given how many they are, wherever they stand.
 pub fn keep_live(t: &mut [u32], board: Board, idle: usize)
-    requires { ⌜ SomeSheet (now t) board ⌝ }
+    requires { ⌜ SomeIdle (now t) board idle ⌝ }
     ensures { λ _. ⌜ ((s : Sheet) → HoldsSheet (now (t .entry)) board s → idle ≡ idleCount s → KeepsLive (now (t .exit)) board s idle) ⌝ }
 {
     if idle != 0 {

@@ -1,7 +1,7 @@
 -- Laws of live moves: what live says in plain words; 11 at a wait is the same without its moves that aren't live, and the first move
 -- that does not hold a cell is live.
 use mathlib.Core.Path.{_≡_, refl, sym, ap, ap₂, _∙_, subst, subst⁻¹}
-use mathlib.Core.Bool.{Bool, not, _&&_, _||_}
+use mathlib.Core.Bool.{Bool, true, not, _&&_, _||_}
 use mathlib.Core.Logic.{_≢_, inl, inr, ⊎-elim}
 use mathlib.Core.Option.{Option, none, some, Option·map}
 use mathlib.Core.List.{List, _∷_}
@@ -16,7 +16,7 @@ use Rattle.rules.specs.Live.{cellsOfWaits, cellsOfMoves, Shared, andThis
 use Rattle.rules.specs.Choice.{the-first, one-later, PlaceIn, cellThere, waitsThere, firstMove}
 use Rattle.rules.specs.Holder.{liveThere}
 use Rattle.rules.specs.Spare.{earlier, IsLive, LiveExactly, liveOnes}
-use Rattle.rules.proofs.Tests.{true-of, false-of, decide, both, fst, snd, nand, twice, cond-yes, cond-no, by-cond}
+use Rattle.rules.proofs.Tests.{true-of, false-of, same-test, decide, both, fst, snd, nand, twice, cond-yes, cond-no, by-cond}
 use Rattle.rules.proofs.Lists.{among-append, keep-in, in-keep, any-some, some-any}
 
 -- the list of a node's cells has the cells of the node
@@ -37,15 +37,25 @@ pub move-listed : (c : ℕ) (ws : Waits) (x : ℕ) → among (c ∷ cellsOfWaits
 unfolding among inMove
 move-listed c ws x = ap (λ (p : Bool). eqb x c || p) (waits-listed ws x)
 
--- x is common to all moves before
+-- x is common to all moves before; and with one move more
+abbrev pub inAllBefore : Shared → ℕ → Bool
+inAllBefore none x = true
+inAllBefore (some xs) x = among xs x
+
+pub all-before : (before : Shared) (c : ℕ) (ws : Waits) (x : ℕ) → inAllBefore (andThis before c ws) x ≡ (inAllBefore before x && inMove c ws x)
+unfolding andThis
+all-before none c ws x = move-listed c ws x
+all-before (some xs) c ws x =
+    same-test (among (keep (inMove c ws) xs) x) (among xs x && inMove c ws x)
+    (λ m. let f = keep-in (inMove c ws) x xs m in both (among xs x) (inMove c ws x) (f .0) (f .1))
+    (λ m. in-keep (inMove c ws) x xs (snd (among xs x) (inMove c ws x) m) (fst (among xs x) (inMove c ws x) m))
+
 unfoldable pub Common : Shared → ℕ → Type 0
-Common none x = Unit {0}
-Common (some xs) x = T (among xs x)
+Common before x = T (inAllBefore before x)
 
 common-on : (before : Shared) (c : ℕ) (ws : Waits) (x : ℕ) → Common before x → T (inMove c ws x) → Common (andThis before c ws) x
-unfolding Common andThis inMove
-common-on none c ws x h i = subst⁻¹ T (move-listed c ws x) i
-common-on (some xs) c ws x h i = in-keep (inMove c ws) x xs i h
+unfolding Common
+common-on before c ws x h i = subst⁻¹ T (all-before before c ws x) (both (inAllBefore before x) (inMove c ws x) h i)
 
 -- a move without x, which is common to all before it, is live
 lives : (before : Shared) (c : ℕ) (ws : Waits) (x : ℕ) → Common before x → T (not (inMove c ws x)) → T (isLive before c ws)

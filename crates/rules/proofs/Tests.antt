@@ -1,7 +1,7 @@
 -- Tests as statements: the connectives, a choice by a test, and a test as a number. (The sample tables are named here so that
 -- they are computed before anything is proved from the definitions.)
-use mathlib.Core.Path.{_≡_, refl, subst⁻¹}
-use mathlib.Core.Bool.{Bool, true, false, not, cond, _&&_, _||_}
+use mathlib.Core.Path.{_≡_, refl, sym, ap, _∙_, subst⁻¹}
+use mathlib.Core.Bool.{Bool, true, false, not, cond, _&&_, _||_, Bool·not-not}
 use mathlib.Core.Logic.{_⊎_, inl, inr}
 use lib.Dec.{T}
 use Rattle.rules.specs.Words.{oneIf}
@@ -72,6 +72,10 @@ nand false b h = inl tt
 pub twice : (b : Bool) → T b → T (not (not b))
 twice true h = tt
 twice false h = h
+
+-- what a test that is turned round told
+pub turned : {a b : Bool} → not a ≡ b → a ≡ not b
+turned {a} e = sym (Bool·not-not a) ∙ ap not e
 
 pub cond-yes : {A : Type 0} (b : Bool) (u v : A) → T b → cond b u v ≡ u
 cond-yes true u v h = refl

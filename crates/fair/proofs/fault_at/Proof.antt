@@ -1,15 +1,11 @@
 -- A move has the smallest of the faulty cells that are found there; a wait has none, nor has a move with nothing under it.
-use mathlib.Core.Path.{_≡_, sym, ap, _∙_}
-use mathlib.Core.Bool.{Bool, not, Bool·not-not}
+use mathlib.Core.Path.{sym, _∙_}
 use borrow.Author.Needs.{needs}
 use Rattle.rules.specs.Fair.{notApart}
+use Rattle.rules.proofs.Tests.{turned}
 use Rattle.fair.proofs.WhichKind.{some-move, node-room, least-move, none-wait, leaf-apart}
 use Rattle.fair.proofs.fault_at.Statement.{statement}
 use Rattle.fair.proofs.fault_at.Tie as tie
-
--- what a test that is turned round told
-turned : {x y : Bool} → not x ≡ y → x ≡ not y
-turned {x} e = sym (Bool·not-not x) ∙ ap not e
 
 is-move-requires : tie.Need-is-move-requires
 is-move-requires c κs = node-room (c .before .pre .1)

@@ -16,7 +16,8 @@ enum-known-checked-2 c = search needs
 keep-live-requires : tie.Need-keep-live-requires
 keep-live-requires c κs =
     let pre = c .before .before .before .before .before .before .before .pre in
-    record { sheet = pre .sheet; held = pre .whole .tree }
+    let passed = said-passed _ _ (c .before .before .before .before .every-line .ensures (pre .sheet) (pre .whole)) _ (c .before .before .checked2 .given .1) in
+    record { sheet = pre .sheet; held = pre .whole .tree; idle-is = passed .1 }
 
 few-on-requires : tie.Need-few-on-requires
 few-on-requires c κs =

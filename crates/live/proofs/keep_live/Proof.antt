@@ -6,7 +6,7 @@ use Rattle.live.proofs.keep_live.Statement.{statement}
 use Rattle.live.proofs.keep_live.Tie as tie
 
 thin-requires : tie.Need-thin-requires
-thin-requires c κs = search needs
+thin-requires c κs = let s = c .before .before .before .pre in record { sheet = s .sheet; held = s .held }
 
 same-length : tie.Need-same-length
 same-length c = search needs

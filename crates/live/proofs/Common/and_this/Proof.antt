@@ -1,6 +1,7 @@
 -- The first move is live; a later one where some common cell isn't in it.
 use borrow.Author.Needs.{needs}
-use Rattle.live.proofs.Sharing.{unset, is-set, told-first, told-idle, told-live}
+use Rattle.rules.proofs.Tests.{turned}
+use Rattle.live.proofs.Sharing.{told-first, told-idle, told-live}
 use Rattle.live.proofs.Looking.{move-cells}
 use Rattle.live.proofs.Common.and_this.Statement.{statement}
 use Rattle.live.proofs.Common.and_this.Tie as tie
@@ -9,7 +10,7 @@ cells-at-requires : tie.Need-cells-at-requires
 cells-at-requires c κs = let p = c .before .before .pre in (p .0, (_, p .1 .0))
 
 returns : tie.Need-returns
-returns c = λ before d ws h a. told-first _ _ _ (unset _ (c .if1 .taken)) before d ws h (move-cells (c .before .before .before .before .before .pre .1 .1) (c .before .before .cells-at .ensures) d ws a)
+returns c = λ before d ws h a. told-first _ _ _ (turned (c .if1 .taken)) before d ws h (move-cells (c .before .before .before .before .before .pre .1 .1) (c .before .before .cells-at .ensures) d ws a)
 
 exceeds-requires : tie.Need-exceeds-requires
 exceeds-requires c κs = c .before .before .before .before .before .pre .0
@@ -17,7 +18,7 @@ exceeds-requires c κs = c .before .before .before .before .before .pre .0
 returns-2 : tie.Need-returns-2
 returns-2 c = λ before d ws h a.
     let own = move-cells (c .before .before .before .before .before .before .before .pre .1 .1) (c .before .before .before .before .cells-at .ensures) d ws a in
-    told-idle _ _ _ d ws own (is-set _ (c .before .before .if1 .left)) (c .before .exceeds .ensures) (unset _ (c .if2 .taken)) before h
+    told-idle _ _ _ d ws own (turned (c .before .before .if1 .left)) (c .before .exceeds .ensures) (turned (c .if2 .taken)) before h
 
 meet-requires : tie.Need-meet-requires
 meet-requires c κs = search needs
@@ -31,7 +32,7 @@ exceeds-requires-2 c κs = c .before .before .before .before .before .before .be
 returns-3 : tie.Need-returns-3
 returns-3 c = λ before d ws h a.
     let own = move-cells (c .before .before .before .before .before .before .before .before .before .before .pre .1 .1) (c .before .before .before .before .before .before .before .cells-at .ensures) d ws a in
-    told-live _ _ _ d ws own _ (is-set _ (c .before .before .before .before .before .if1 .left)) (c .before .before .before .before .exceeds .ensures) (is-set _ (c .before .before .before .if2 .left))
+    told-live _ _ _ d ws own _ (turned (c .before .before .before .before .before .if1 .left)) (c .before .before .before .before .exceeds .ensures) (turned (c .before .before .before .if2 .left))
     (λ x. c .before .before .meet .ensures _ x) (λ x. c .before .empty .ensures .1 _ x) (c .exceeds2 .ensures) before h
 
 pub and-this-spec : {M : Type 1} → statement M
