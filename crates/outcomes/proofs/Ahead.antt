@@ -1,5 +1,5 @@
 -- What stands from a node up to the end: the next wait, the waits under a move before the others, and how many outcomes there are.
-use mathlib.Core.Path.{_≡_, refl, ap, subst}
+use mathlib.Core.Path.{_≡_, refl, subst}
 use Prim.Native.Nat.{ℕ, _+_, _*_, _<_, _≤_}
 use native.Mathlib.Nat.{mul-pos}
 use native.Mathlib.Omega.{arith}
@@ -85,11 +85,6 @@ module _ {b : Board} {t : List ℕ} {end : ℕ} where
       let f = move-first line c us ms e in
       let z : i + size (nodesOfMoves (move line c us ms)) ≡ i + 1 + size (nodesOfWaits us) + size (nodesOfMoves ms) = omega arith in
       move-past us (f .0) (moves-before ms (f .1) (subst (λ (k : ℕ). Ahead b t end k ws) z a))
-
--- nothing after waits
-pub then-none : (ws : Waits) → andThen ws noWaits ≡ ws
-then-none noWaits = refl
-then-none (wait line ms ws) = ap (λ (us : Waits). wait line ms us) (then-none ws)
 
 -- the loop's invariant: what is ahead stays ahead
 pub record Passing (t : List ℕ) (end i next : ℕ) : Type 0 where

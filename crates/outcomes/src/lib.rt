@@ -1,5 +1,5 @@
-// outcomes: the outcome with a number, by the ends and the counts in the node table, and the first outcome that does not join. It sees
-// rules, cells and nodes.
+// outcomes: the outcome with a number, by the ends and the counts in the node table; the first outcome that does not join, and how many
+// were passed over. It sees rules, cells and nodes.
 ghost use Rattle.cells.specs.Cells.{Fits};
 ghost use Rattle.outcomes.specs.Picking.{SomeMovePick, SomeWaitPick, MovePicked, WaitPicked};
 ghost use Rattle.outcomes.specs.Searching.{Ahead, SomeAhead, WaitNext, SomeGoing, SearchFound, SomeCountable, UnjoinedFound};
@@ -14,10 +14,10 @@ use nodes::with_stone;
 use rules::Board;
 use rules::Player;
 
-// The first outcome that does not join, by its number.
+// The first outcome that does not join, by its number; where there is none, how many were passed over.
 pub enum Unjoined {
     First { number: u32 },
-    Nothing,
+    Nothing { passed: u32 },
 }
 
 // The cells of the outcome with the number of the move at node i, added to a set: the last wait varies fastest.
@@ -77,6 +77,7 @@ fn next_wait(t: &[u32], end: usize, i: usize) -> usize
 }
 
 // The first outcome that does not join among those that go on from a set by the waits from node i on; there are so many, and the first has the number.
+// Where the set joins one is looked at, and the others are passed over.
 fn first_from(
     t: &[u32],
     board: Board,
@@ -92,7 +93,9 @@ fn first_from(
     ensures { λ r. ⌜ SearchFound board player (now (t .entry)) end i many number (set .rows) r ⌝ }
 {
     if set.joins(board, player) {
-        return Unjoined::Nothing;
+        return Unjoined::Nothing {
+            passed: (many - 1) as u32,
+        };
     }
     let wait = next_wait(t, end, i);
     if wait == end {
@@ -104,20 +107,22 @@ fn first_from(
     let after = end_at(t, wait);
     let mut next = wait + 1;
     let mut n = number;
+    let mut passed = 0;
     while next < after {
         let with = with_stone(set, board, cell_at(t, next));
         let own = count_at(t, next) * others;
         let found = first_from(t, board, player, end, next + 1, own, n, with);
-        if let Unjoined::First { number } = found {
-            return Unjoined::First { number };
-        }
+        let Unjoined::Nothing { passed: more } = found else {
+            return found;
+        };
+        passed += more;
         n += own;
         next = end_at(t, next);
     }
-    Unjoined::Nothing
+    Unjoined::Nothing { passed }
 }
 
-// The first outcome of the move at node i that does not join for the player with the cells of a set.
+// The first outcome of the move at node i that does not join for the player with the cells of a set; or how many were passed over.
 pub fn first_unjoined(t: &[u32], board: Board, player: Player, i: usize, set: Cells) -> Unjoined
     requires fits { ⌜ Fits board ⌝ }
     requires stands { ⌜ SomeCountable board (now t) i ⌝ }

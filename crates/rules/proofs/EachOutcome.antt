@@ -1,4 +1,4 @@
--- A property of each outcome, and what becomes of it when a choice opens other waits.
+-- A property of each outcome (as cells, or as moves), and what becomes of it when a choice opens other waits.
 use mathlib.Core.Path.{_≡_, refl, ap, subst, subst⁻¹}
 use mathlib.Core.Bool.{not}
 use mathlib.Core.List.{List, [], _∷_, _++_, map, append-assoc}
@@ -15,48 +15,48 @@ use Rattle.rules.specs.Holder.{liveThere, liveChoice}
 use Rattle.rules.proofs.Tests.{decide, left, right, cases, cond-yes, cond-no}
 use Rattle.rules.proofs.Lists.{in-append, append-left, append-right}
 
-abbrev pub Each : (List ℕ → Type 0) → List (List ℕ) → Type 0
+abbrev pub Each : {A : Type 0} → (List A → Type 0) → List (List A) → Type 0
 Each K [] = Unit {0}
 Each K (o ∷ os) = K o × Each K os
 
-pub each-in : (K : List ℕ → Type 0) (os : List (List ℕ)) → ((o : List ℕ) → o ∈ os → K o) → Each K os
+pub each-in : {A : Type 0} (K : List A → Type 0) (os : List (List A)) → ((o : List A) → o ∈ os → K o) → Each K os
 each-in K [] h = tt
 each-in K (o ∷ os) h = (h o at-head, each-in K os (λ q i. h q (in-tail i)))
 
-pub each-out : (K : List ℕ → Type 0) (os : List (List ℕ)) → Each K os → (o : List ℕ) → o ∈ os → K o
+pub each-out : {A : Type 0} (K : List A → Type 0) (os : List (List A)) → Each K os → (o : List A) → o ∈ os → K o
 each-out K (q ∷ os) h o at-head = h .0
 each-out K (q ∷ os) h o (in-tail i) = each-out K os (h .1) o i
 
-pub each-mono : (K L : List ℕ → Type 0) → ((o : List ℕ) → K o → L o) → (os : List (List ℕ)) → Each K os → Each L os
+pub each-mono : {A : Type 0} (K L : List A → Type 0) → ((o : List A) → K o → L o) → (os : List (List A)) → Each K os → Each L os
 each-mono K L f [] h = tt
 each-mono K L f (o ∷ os) h = (f o (h .0), each-mono K L f os (h .1))
 
-pub each-append : (K : List ℕ → Type 0) (os ps : List (List ℕ)) → Each K os → Each K ps → Each K (os ++ ps)
+pub each-append : {A : Type 0} (K : List A → Type 0) (os ps : List (List A)) → Each K os → Each K ps → Each K (os ++ ps)
 each-append K [] ps h k = k
 each-append K (o ∷ os) ps h k = (h .0, each-append K os ps (h .1) k)
 
-pub each-front : (K : List ℕ → Type 0) (os ps : List (List ℕ)) → Each K (os ++ ps) → Each K os
+pub each-front : {A : Type 0} (K : List A → Type 0) (os ps : List (List A)) → Each K (os ++ ps) → Each K os
 each-front K [] ps h = tt
 each-front K (o ∷ os) ps h = (h .0, each-front K os ps (h .1))
 
-pub each-back : (K : List ℕ → Type 0) (os ps : List (List ℕ)) → Each K (os ++ ps) → Each K ps
+pub each-back : {A : Type 0} (K : List A → Type 0) (os ps : List (List A)) → Each K (os ++ ps) → Each K ps
 each-back K [] ps h = h
 each-back K (o ∷ os) ps h = each-back K os ps (h .1)
 
-pub each-map : (K : List ℕ → Type 0) (f : List ℕ → List ℕ) (os : List (List ℕ)) → Each (λ o. K (f o)) os → Each K (map f os)
+pub each-map : {A : Type 0} (K : List A → Type 0) (f : List A → List A) (os : List (List A)) → Each (λ o. K (f o)) os → Each K (map f os)
 each-map K f [] h = tt
 each-map K f (o ∷ os) h = (h .0, each-map K f os (h .1))
 
-pub each-unmap : (K : List ℕ → Type 0) (f : List ℕ → List ℕ) (os : List (List ℕ)) → Each K (map f os) → Each (λ o. K (f o)) os
+pub each-unmap : {A : Type 0} (K : List A → Type 0) (f : List A → List A) (os : List (List A)) → Each K (map f os) → Each (λ o. K (f o)) os
 each-unmap K f [] h = tt
 each-unmap K f (o ∷ os) h = (h .0, each-unmap K f os (h .1))
 
-pub each-with : (K : List ℕ → Type 0) (os ps : List (List ℕ)) → Each (λ a. Each (λ b. K (a ++ b)) ps) os → Each K (eachWithEach os ps)
+pub each-with : {A : Type 0} (K : List A → Type 0) (os ps : List (List A)) → Each (λ a. Each (λ b. K (a ++ b)) ps) os → Each K (eachWithEach os ps)
 unfolding eachWithEach
 each-with K [] ps h = tt
 each-with K (o ∷ os) ps h = each-append K (map (λ b. o ++ b) ps) (eachWithEach os ps) (each-map K (λ b. o ++ b) ps (h .0)) (each-with K os ps (h .1))
 
-pub each-without : (K : List ℕ → Type 0) (os ps : List (List ℕ)) → Each K (eachWithEach os ps) → Each (λ a. Each (λ b. K (a ++ b)) ps) os
+pub each-without : {A : Type 0} (K : List A → Type 0) (os ps : List (List A)) → Each K (eachWithEach os ps) → Each (λ a. Each (λ b. K (a ++ b)) ps) os
 unfolding eachWithEach
 each-without K [] ps h = tt
 each-without K (o ∷ os) ps h = (

@@ -24,6 +24,9 @@ pub mod Live
 pub mod Answering
 pub mod EachOutcome
 pub mod Living
+pub mod LineOrder
+pub mod Passing
+pub mod Shortest
 pub mod Cover
 pub mod GoesOn
 pub mod SameReplies

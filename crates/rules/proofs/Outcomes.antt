@@ -1,7 +1,7 @@
--- Laws of the outcomes: their count is the length of their list, and the outcome of a number by the numbering rule.
+-- Laws of the outcomes: each with each, their count is the length of their list, and the outcome of a number by the numbering rule.
 use mathlib.Core.Path.{_≡_, refl, sym, ap, ap₂, _∙_}
 use Prim.Native.Nat.{ℕ, zero, suc, _+_, _*_, _-_, _/_, _%_, _≤_, _<_}
-use mathlib.Core.List.{List, [], _∷_, _++_, map}
+use mathlib.Core.List.{List, [], _∷_, _++_, map, append-assoc, map-append}
 use lib.ListN.{length, getD, length-append, length-map, List·getD-append}
 use lib.Seq.{getD-append-add}
 use native.Mathlib.Nat.{mod-lt, div-lt-iff-lt-mul, div-add-mod'}
@@ -10,7 +10,35 @@ use Rattle.rules.specs.Tree.{Waits, noWaits, wait, Moves, noMoves, move,
 use Rattle.rules.specs.Live.{living}
 use Rattle.rules.specs.Outcomes.{eachWithEach, outcomesOfWaits, outcomesOfMoves, countOfWaits, countOfMoves, outcomes, outcomeCount}
 
-length-each : (xs ys : List (List ℕ)) → length (eachWithEach xs ys) ≡ length xs * length ys
+-- each with each: of lists put together, of lists with the same beginning, and of three
+pub before-twice : {A : Type 0} (x y : List A) (zs : List (List A)) → map (λ z. x ++ z) (map (λ z. y ++ z) zs) ≡ map (λ z. (x ++ y) ++ z) zs
+before-twice x y [] = refl
+before-twice x y (z ∷ zs) = ap₂ _∷_ (sym (append-assoc x y z)) (before-twice x y zs)
+
+pub each-append : {A : Type 0} (xs ys zs : List (List A)) → eachWithEach (xs ++ ys) zs ≡ eachWithEach xs zs ++ eachWithEach ys zs
+unfolding eachWithEach
+each-append [] ys zs = refl
+each-append (x ∷ xs) ys zs =
+    ap (_++_ (map (λ z. x ++ z) zs)) (each-append xs ys zs) ∙ sym (append-assoc (map (λ z. x ++ z) zs) (eachWithEach xs zs) (eachWithEach ys zs))
+
+pub each-before : {A : Type 0} (x : List A) (ys zs : List (List A)) → eachWithEach (map (λ y. x ++ y) ys) zs ≡ map (λ y. x ++ y) (eachWithEach ys zs)
+unfolding eachWithEach
+each-before x [] zs = refl
+each-before x (y ∷ ys) zs =
+    ap₂ _++_ (sym (before-twice x y zs)) (each-before x ys zs) ∙ sym (map-append (λ z. x ++ z) (map (λ z. y ++ z) zs) (eachWithEach ys zs))
+
+pub each-each : {A : Type 0} (xs ys zs : List (List A)) → eachWithEach (eachWithEach xs ys) zs ≡ eachWithEach xs (eachWithEach ys zs)
+unfolding eachWithEach
+each-each [] ys zs = refl
+each-each (x ∷ xs) ys zs =
+    each-append (map (λ y. x ++ y) ys) (eachWithEach xs ys) zs ∙ ap₂ _++_ (each-before x ys zs) (each-each xs ys zs)
+
+pub each-of-none : {A : Type 0} (ys : List (List A)) → eachWithEach ([] ∷ []) ys ≡ ys
+unfolding eachWithEach
+each-of-none [] = refl
+each-of-none (y ∷ ys) = ap (λ l. y ∷ l) (each-of-none ys)
+
+pub length-each : {A : Type 0} (xs ys : List (List A)) → length (eachWithEach xs ys) ≡ length xs * length ys
 unfolding eachWithEach
 length-each [] ys = omega arith
 length-each (x ∷ xs) ys =

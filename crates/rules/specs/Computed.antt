@@ -6,7 +6,7 @@ use mathlib.Core.List.{[], _∷_}
 use mathlib.Core.Option.{some}
 use lib.Dec.{T}
 use Rattle.rules.specs.Sizes.{leastWorkspace}
-use Rattle.rules.specs.Words.{among, keep, any, firstSome, same, twice, total, upTo, firstOrNone, oneIf}
+use Rattle.rules.specs.Words.{among, keep, any, firstSome, same, twice, total, upTo, firstThat, firstOrNone, oneIf}
 use Rattle.rules.specs.Board.{onBoard, cellAt, cells, isCell, columnOf, rowOf, there, around, neighbours, onFirstSide, onLastSide, listed, smallest}
 use Rattle.rules.specs.Joining.{touches, grow, reachedIn, joined}
 use Rattle.rules.specs.Text.{bind, give, guard, _orElse_, anyByte, byte, word, tab, lineFeed, isDigit, digits, afterDigits, spelled, wellSpelled, number, numberIn}
@@ -17,13 +17,14 @@ use Rattle.rules.specs.Written.{howManyWaits, howManyMoves}
 use Rattle.rules.specs.Fair.{inMove, holding, inEvery, notApart, notElusive, onSetUp, linesUnderMove, linesUnderWait, branch, branches, faultAt, firstFault, twiceAt, firstOnSetUp, firstNotApart, firstTwice, firstNotElusive, inWaits, inMoves}
 use Rattle.rules.specs.Live.{cellsOfWaits, cellsOfMoves, andThis, isLive, living, livingAfter, idleUnder, idleCount}
 use Rattle.rules.specs.Outcomes.{eachWithEach, outcomes, outcomeCount, outcomesOfWaits, outcomesOfMoves, countOfWaits, countOfMoves}
+use Rattle.rules.specs.Passing.{listsOfWaits, listsOfMoves, lists, stonesOf, beginnings, shortest, begins, beginsThere, isPassed, passedAmong, passedOver, lookedInWaits, lookedInMoves, lookedAt}
 use Rattle.rules.specs.Choice.{the-first, one-later}
 use Rattle.rules.specs.Answering.{smallestLine, firstLine, touchedAnswer, freeAnswer, answer, start, mine, isOver, isTaken, isEmpty, next, answeredBy, answered}
 use Rattle.rules.specs.Entries.{_>>=_, refuseIf, refuseFault, refuseUnjoined, readTextUpTo, readUpTo, fair, satisfying, accepted, counts, judged, judge, step, rounds, refusedPlay, playedOut, playOn, play, outcomeCells, named, outcome, workspaceAfter, roomAfter, playShown, outcomeShown}
 use Rattle.rules.specs.Holder.{liveThere, liveChoice, allowed}
 use Rattle.rules.specs.Spare.{acceptedOverAll}
 use Rattle.rules.specs.declared.Verdict.the-variants.{NoSuchCell}
-use Rattle.rules.specs.Samples.{byteOf, sheet, toldOf, countsOf, reply, P1, P3, p1, p3, large, stones, onStones, spare, onSpare, table, traps, replies, expected}
+use Rattle.rules.specs.Samples.{byteOf, sheet, toldOf, countsOf, lookedOf, reply, P1, P3, p1, p3, large, stones, onStones, spare, onSpare, table, traps, replies, expected}
 
 -- in P1 the opponent may begin with 3, and the holder may answer 4
 abbrev Opens : Type 0
@@ -48,7 +49,7 @@ computed : (replies table ≡ expected table) × (replies traps ≡ expected tra
     × (headerLine (sheet P1) ≡ some (record { board = p1 .board; player = p1 .player }, sheet "m b1 1/w 2/m a2 0/m b2 0/"))
     × LastCell × (accepted leastWorkspace (sheet stones) ≡ got onStones) × StonesOpen
     × SpareTaken × SpareAnswer
-unfolding among keep any firstSome same twice total upTo firstOrNone oneIf onBoard cellAt cells isCell columnOf rowOf there around neighbours onFirstSide onLastSide listed smallest touches grow reachedIn joined bind give guard _orElse_ anyByte byte word tab lineFeed isDigit digits afterDigits spelled wellSpelled number numberIn player headerUpTo letter place isSide side setUpLine moveLine dashLine waitLine asWaits asMoves stone setUpCells cellsOf atStart everyMove everyWait moveCount waitCount movesOfWaits movesOfMoves waitsOfWaits waitsOfMoves go give·Reading within cellOf refuseHere lineHere nodeHere thisSpot isNothing nodeLine inTurn ended setDown readSetUp readTree planted readBody headed readSheetUpTo readMove readWait inMove holding inEvery notApart notElusive onSetUp howManyWaits howManyMoves linesUnderMove linesUnderWait branch branches faultAt firstFault twiceAt firstOnSetUp firstNotApart firstTwice firstNotElusive inWaits inMoves cellsOfWaits cellsOfMoves andThis isLive living livingAfter idleUnder idleCount eachWithEach outcomes outcomeCount outcomesOfWaits outcomesOfMoves countOfWaits countOfMoves liveThere liveChoice allowed smallestLine firstLine touchedAnswer freeAnswer answer start mine isOver isTaken isEmpty next answeredBy answered _>>=_ refuseIf refuseFault refuseUnjoined readUpTo readTextUpTo fair satisfying accepted counts judged judge step rounds refusedPlay playedOut playOn play outcomeCells named outcome acceptedOverAll workspaceAfter roomAfter playShown outcomeShown byteOf sheet toldOf countsOf reply table traps replies expected
+unfolding among keep any firstThat firstSome same twice total upTo firstOrNone oneIf onBoard cellAt cells isCell columnOf rowOf there around neighbours onFirstSide onLastSide listed smallest touches grow reachedIn joined bind give guard _orElse_ anyByte byte word tab lineFeed isDigit digits afterDigits spelled wellSpelled number numberIn player headerUpTo letter place isSide side setUpLine moveLine dashLine waitLine asWaits asMoves stone setUpCells cellsOf atStart everyMove everyWait moveCount waitCount movesOfWaits movesOfMoves waitsOfWaits waitsOfMoves go give·Reading within cellOf refuseHere lineHere nodeHere thisSpot isNothing nodeLine inTurn ended setDown readSetUp readTree planted readBody headed readSheetUpTo readMove readWait inMove holding inEvery notApart notElusive onSetUp howManyWaits howManyMoves linesUnderMove linesUnderWait branch branches faultAt firstFault twiceAt firstOnSetUp firstNotApart firstTwice firstNotElusive inWaits inMoves cellsOfWaits cellsOfMoves andThis isLive living livingAfter idleUnder idleCount eachWithEach outcomes outcomeCount outcomesOfWaits outcomesOfMoves countOfWaits countOfMoves listsOfWaits listsOfMoves lists stonesOf beginnings shortest begins beginsThere isPassed passedAmong passedOver lookedInWaits lookedInMoves lookedAt liveThere liveChoice allowed smallestLine firstLine touchedAnswer freeAnswer answer start mine isOver isTaken isEmpty next answeredBy answered _>>=_ refuseIf refuseFault refuseUnjoined readUpTo readTextUpTo fair satisfying accepted counts judged judge step rounds refusedPlay playedOut playOn play outcomeCells named outcome acceptedOverAll workspaceAfter roomAfter playShown outcomeShown byteOf sheet toldOf countsOf lookedOf reply table traps replies expected
 computed = (refl, refl, refl, (tt, tt, tt), refl, refl, (refl, refl, refl), refl, (tt, tt), (refl, refl), refl)
 
 pub samples : replies table ≡ expected table

@@ -16,6 +16,7 @@ use Rattle.rules.specs.Reading.{Result, refused, got, readSheetUpTo}
 use Rattle.rules.specs.Fair.{Fault, firstOnSetUp, firstNotApart, firstTwice, firstNotElusive}
 use Rattle.rules.specs.Live.{idleCount}
 use Rattle.rules.specs.Outcomes.{outcomes, outcomeCount}
+use Rattle.rules.specs.Passing.{passedOver}
 use Rattle.rules.specs.Answering.{Game, start, isOver, isTaken, answered}
 use Rattle.rules.specs.declared.Board.{Board}
 use Rattle.rules.specs.declared.Player.{Player}
@@ -97,9 +98,10 @@ acceptedBy checks r = do
 unfoldable pub accepted : (workspace : ℕ) → Bytes → Result Sheet
 accepted w t = acceptedBy fair (read w t)
 
--- the counts of a sheet that judge accepts: moves, waits, outcomes, and (document 02, C-16) how many of the moves aren't live
+-- the counts of a sheet that judge accepts: moves, waits, outcomes, and (document 02) how many outcomes were passed over (C-15) and
+-- how many of the moves aren't live (C-16)
 unfoldable pub counts : Sheet → Counts
-counts s = record { moves = moveCount s; waits = waitCount s; outcomes = outcomeCount s; idle = idleCount s }
+counts s = record { moves = moveCount s; waits = waitCount s; outcomes = outcomeCount s; passed = passedOver s; idle = idleCount s }
 
 -- Judge takes a sheet and answers a verdict; it also returns the counts
 unfoldable pub judged : Result Sheet → Verdict

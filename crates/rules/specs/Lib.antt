@@ -13,6 +13,7 @@ pub mod Unread
 pub mod Fair
 pub mod Live
 pub mod Outcomes
+pub mod Passing
 pub mod Choice
 pub mod Answering
 pub mod Entries

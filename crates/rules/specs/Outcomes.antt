@@ -5,7 +5,7 @@ use Rattle.rules.specs.Tree.{Waits, noWaits, wait, Moves, noMoves, move,
 use Rattle.rules.specs.Live.{living}
 
 -- each of the first list with each of the second, the second varying fastest
-unfoldable pub eachWithEach : List (List ℕ) → List (List ℕ) → List (List ℕ)
+unfoldable pub eachWithEach : {A : Type 0} → List (List A) → List (List A) → List (List A)
 eachWithEach [] ys = []
 eachWithEach (x ∷ xs) ys = map (λ y. x ++ y) ys ++ eachWithEach xs ys
 

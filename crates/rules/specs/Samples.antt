@@ -10,6 +10,9 @@ use Rattle.rules.specs.Text.{Bytes}
 use Rattle.rules.specs.Lines.{own, opp}
 use Rattle.rules.specs.Tree.{noWaits, wait, Moves, noMoves, move, Sheet}
 use Rattle.rules.specs.Verdict.{told}
+use Rattle.rules.specs.Reading.{Result, refused, got, readSheet}
+use Rattle.rules.specs.Outcomes.{outcomeCount}
+use Rattle.rules.specs.Passing.{passedOver, lookedAt}
 use Rattle.rules.specs.Entries.{judge, play, outcome}
 use Rattle.rules.specs.declared.Told.{Told}
 use Rattle.rules.specs.declared.Player.the-variants.{D}
@@ -25,20 +28,27 @@ sheet (S._∷_ c s) = byteOf (code c) ∷ sheet s
 pub data Request : Type 0 where
   judging : S.String → Request
   counting : S.String → Request
+  looking : S.String → Request
   playing : S.String → List ℕ → Request
   naming : S.String → ℕ → Request
 
--- of judge: number, line, cell, index, moves, waits, outcomes; or number, moves, waits, outcomes, how many moves aren't live; of play:
--- number, place, 1 where play is over, the answers; of outcome: number, the cells
+-- of judge: number, line, cell, index, moves, waits, outcomes; or number, moves, waits, outcomes, how many outcomes are passed over and
+-- how many moves aren't live; of a sheet that reads: outcomes, how many are looked at and how many are passed over; of play: number,
+-- place, 1 where play is over, the answers; of outcome: number, the cells
 unfoldable pub toldOf : Told → List ℕ
 toldOf v = v .number ∷ v .line ∷ v .cell ∷ v .index ∷ v .counts .moves ∷ v .counts .waits ∷ v .counts .outcomes ∷ []
 
 unfoldable pub countsOf : Told → List ℕ
-countsOf v = v .number ∷ v .counts .moves ∷ v .counts .waits ∷ v .counts .outcomes ∷ v .counts .idle ∷ []
+countsOf v = v .number ∷ v .counts .moves ∷ v .counts .waits ∷ v .counts .outcomes ∷ v .counts .passed ∷ v .counts .idle ∷ []
+
+unfoldable pub lookedOf : Result Sheet → List ℕ
+lookedOf (refused v) = []
+lookedOf (got s) = outcomeCount s ∷ lookedAt s ∷ passedOver s ∷ []
 
 unfoldable pub reply : Request → List ℕ
 reply (judging s) = toldOf (told (judge leastWorkspace (sheet s)))
 reply (counting s) = countsOf (told (judge leastWorkspace (sheet s)))
+reply (looking s) = lookedOf (readSheet (sheet s))
 reply (playing s xs) =
     let r = play leastWorkspace (sheet s) xs 100 in
     (told (r .verdict)) .number ∷ r .place ∷ oneIf (r .over) ∷ r .answers
@@ -147,7 +157,11 @@ liveAgain = "hex 3 2 D/m b1 1/w 3/m a2 1/w 2/m a1 0/m c1 0/m c1 1/w 2/m a2 0/m a
 abbrev spareUnderSpare : S.String
 spareUnderSpare = "hex 3 2 D/m b1 1/w 3/m a2 0/m b2 0/m a1 1/w 3/m c1 0/m c2 0/m b2 0/"
 
--- "Traps for the setter's tool", the sentences of the paper that P1 to P12 do not pin, and those of follow-ups C-11, C-20 and C-16
+-- two moves with one cell: a1 joins, and so do b1, c1 and d1
+abbrev oneCell : S.String
+oneCell = "hex 5 1 D/m - 1/w 3/m a1 1/w 2/m b1 0/m c1 0/m a1 1/w 2/m b1 0/m d1 0/m e1 0/"
+
+-- "Traps for the setter's tool", the sentences of the paper that P1 to P12 do not pin, and those of follow-ups C-11, C-20, C-16 and C-15
 unfoldable pub traps : List Row
 traps =
     row "the first and the third wait share a cell" (judging "hex 3 3 D/m b2 3/w 2/m a1 0/m b1 0/w 2/m a2 0/m c2 0/w 2/m a1 0/m c3 0/") (10 ∷ 2 ∷ 1 ∷ 0 ∷ 0 ∷ 0 ∷ 0 ∷ [])
@@ -206,17 +220,28 @@ traps =
     ∷ row "no 24: another cell on the last line" (judging "hex 3 3 D/m b2 1/w 3/m b1 1/w 2/m a1 0/m a2 0/m b1 1/w 2/m a1 0/m a3 0/m c1 0/") (13 ∷ 0 ∷ 0 ∷ 0 ∷ 0 ∷ 0 ∷ 0 ∷ [])
     ∷ row "no 24: another count" (judging "hex 3 3 D/m b2 1/w 3/m b1 1/w 2/m a1 0/m a2 0/m b1 0/m c1 0/") (13 ∷ 0 ∷ 0 ∷ 0 ∷ 0 ∷ 0 ∷ 0 ∷ [])
     ∷ row "no 24: another order" (judging "hex 3 3 D/m b2 1/w 3/m b1 1/w 2/m a1 0/m a2 0/m b1 1/w 2/m a2 0/m a1 0/m c1 0/") (13 ∷ 0 ∷ 0 ∷ 0 ∷ 0 ∷ 0 ∷ 0 ∷ [])
-    ∷ row "every move live" (counting P8) (0 ∷ 7 ∷ 3 ∷ 8 ∷ 0 ∷ [])
-    ∷ row "a spare branch has no outcome; its moves and waits count" (counting spare) (0 ∷ 6 ∷ 2 ∷ 2 ∷ 1 ∷ [])
-    ∷ row "a spare branch that does not join, which was 13" (counting "hex 2 2 D/m b1 1/w 3/m a2 0/m b2 0/m a1 0/") (0 ∷ 4 ∷ 1 ∷ 2 ∷ 1 ∷ [])
-    ∷ row "not live under not live counts too, live under it does not" (counting spareUnderSpare) (0 ∷ 7 ∷ 2 ∷ 2 ∷ 2 ∷ [])
-    ∷ row "not live by cells deep in the branch, and live after it" (counting liveAgain) (0 ∷ 8 ∷ 3 ∷ 3 ∷ 1 ∷ [])
+    ∷ row "every move live" (counting P8) (0 ∷ 7 ∷ 3 ∷ 8 ∷ 3 ∷ 0 ∷ [])
+    ∷ row "a spare branch has no outcome; its moves and waits count" (counting spare) (0 ∷ 6 ∷ 2 ∷ 2 ∷ 0 ∷ 1 ∷ [])
+    ∷ row "a spare branch that does not join, which was 13" (counting "hex 2 2 D/m b1 1/w 3/m a2 0/m b2 0/m a1 0/") (0 ∷ 4 ∷ 1 ∷ 2 ∷ 0 ∷ 1 ∷ [])
+    ∷ row "not live under not live counts too, live under it does not" (counting spareUnderSpare) (0 ∷ 7 ∷ 2 ∷ 2 ∷ 0 ∷ 2 ∷ [])
+    ∷ row "not live by cells deep in the branch, and live after it" (counting liveAgain) (0 ∷ 8 ∷ 3 ∷ 3 ∷ 1 ∷ 1 ∷ [])
     ∷ row "the next live move has the next number" (naming liveAgain 2) (0 ∷ 2 ∷ 5 ∷ [])
     ∷ row "18: no more outcomes of live moves" (naming liveAgain 3) (18 ∷ [])
     ∷ row "13: the index counts live moves only" (judging "hex 3 2 D/m b1 1/w 3/m a2 1/w 2/m a1 0/m c1 0/m c1 1/w 2/m a2 0/m a1 0/m c2 0/") (13 ∷ 0 ∷ 0 ∷ 2 ∷ 0 ∷ 0 ∷ 0 ∷ [])
-    ∷ row "0 on a refusal" (counting "hex 2 2 D/m a1 1/w 3/m a2 0/m b2 0/m b1 0/") (13 ∷ 0 ∷ 0 ∷ 0 ∷ 0 ∷ [])
+    ∷ row "0 on a refusal" (counting "hex 2 2 D/m a1 1/w 3/m a2 0/m b2 0/m b1 0/") (13 ∷ 0 ∷ 0 ∷ 0 ∷ 0 ∷ 0 ∷ [])
     ∷ row "10: a spare branch's cells are its node's" (judging "hex 3 2 D/m b1 2/w 2/m a1 0/m c2 0/w 3/m a2 0/m b2 0/m a1 0/") (10 ∷ 2 ∷ 1 ∷ 0 ∷ 0 ∷ 0 ∷ 0 ∷ [])
     ∷ row "a cell of a spare branch touches its wait" (playing "hex 3 2 D/m b1 2/w 2/m c1 0/m c2 0/w 3/m a2 0/m b2 0/m a1 0/" (1 ∷ [])) (0 ∷ 0 ∷ 1 ∷ 4 ∷ [])
+    ∷ row "of P8's outcomes five are looked at" (looking P8) (8 ∷ 5 ∷ 3 ∷ [])
+    ∷ row "none is passed over" (looking P1) (2 ∷ 2 ∷ 0 ∷ [])
+    ∷ row "one outcome, which is looked at" (looking "hex 1 1 D/m a1 0/") (1 ∷ 1 ∷ 0 ∷ [])
+    ∷ row "a refused sheet has outcomes to be passed over" (looking "hex 3 2 D/m - 2/w 2/m b1 0/m c1 0/w 2/m a2 0/m b2 0/") (4 ∷ 4 ∷ 0 ∷ [])
+    ∷ row "the first wait's stone joins: the second is not looked at" (counting "hex 3 2 D/m b1 2/w 2/m a2 0/m b2 0/w 2/m a1 0/m c2 0/") (0 ∷ 5 ∷ 2 ∷ 4 ∷ 2 ∷ 0 ∷ [])
+    ∷ row "the root's stone joins: one is looked at" (counting "hex 5 1 D/m c1 2/w 2/m a1 0/m b1 0/w 2/m d1 0/m e1 0/") (0 ∷ 5 ∷ 2 ∷ 4 ∷ 3 ∷ 0 ∷ [])
+    ∷ row "two moves with one cell are unlike" (counting oneCell) (0 ∷ 8 ∷ 3 ∷ 5 ∷ 2 ∷ 0 ∷ [])
+    ∷ row "and are looked at apart" (looking oneCell) (5 ∷ 3 ∷ 2 ∷ [])
+    ∷ row "own stones join with the first wait's" (counting "hex 3 2 D/own b1/m - 2/w 2/m a2 0/m b2 0/w 2/m a1 0/m c2 0/") (0 ∷ 5 ∷ 2 ∷ 4 ∷ 2 ∷ 0 ∷ [])
+    ∷ row "own stones join alone: all but the first outcome" (counting "hex 2 2 D/own b1/own b2/m - 1/w 2/m a1 0/m a2 0/") (0 ∷ 3 ∷ 1 ∷ 2 ∷ 1 ∷ 0 ∷ [])
+    ∷ row "a spare branch has no outcome to be passed over" (counting "hex 5 1 D/m - 1/w 3/m a1 1/w 2/m b1 0/m c1 0/m d1 0/m e1 1/w 2/m b1 0/m c1 0/") (0 ∷ 8 ∷ 3 ∷ 3 ∷ 1 ∷ 1 ∷ [])
     ∷ []
 
 unfoldable pub replies : List Row → List (List ℕ)

@@ -7,7 +7,7 @@ use Rattle.rules.specs.declared.Verdict.the-variants.{Accepted, Done, Sm
 
 -- the counts are 0 on a refusal
 abbrev pub noCounts : Counts
-noCounts = record { moves = 0; waits = 0; outcomes = 0; idle = 0 }
+noCounts = record { moves = 0; waits = 0; outcomes = 0; passed = 0; idle = 0 }
 
 abbrev pub toldAs : (number line cell index : ℕ) → Told
 toldAs n l c i = record { number = n; line = l; cell = c; index = i; counts = noCounts }

@@ -30,6 +30,11 @@ unfoldable pub any : {A : Type 0} → (A → Bool) → List A → Bool
 any p [] = false
 any p (x ∷ xs) = p x || any p xs
 
+-- the first that passes the test
+unfoldable pub firstThat : {A : Type 0} → (A → Bool) → List A → Option A
+firstThat p [] = none
+firstThat p (x ∷ xs) = if p x then some x else firstThat p xs
+
 -- what the first one gives that gives anything
 unfoldable pub firstSome : {A B : Type 0} → (A → Option B) → List A → Option B
 firstSome f [] = none

@@ -20,11 +20,12 @@ pub enum LineKind {
     Wait,
 }
 
-// What judge counts on a sheet that it accepts.
+// What judge counts on a sheet that it accepts: moves, waits, outcomes, the outcomes that were passed over, the moves that aren't live.
 pub struct Counts {
     pub moves: u32,
     pub waits: u32,
     pub outcomes: u32,
+    pub passed: u32,
     pub idle: u32,
 }
 

@@ -5,7 +5,8 @@ use native.Mathlib.Omega.{arith}
 use borrow.Author.Needs.{needs}
 use borrow.Fn.Kinds.{In}
 use borrow.Fn.PlainCycle.{Measures, is, falls, and}
-use Rattle.outcomes.proofs.Searching.{Searching, found-joining, found-here, searching-first, searching-starts, searching-step, searching-again, searching-found, searching-done}
+use Rattle.outcomes.proofs.Searching.{Searching, found-joining, found-here, searching-first, searching-starts, searching-step, searching-again, searching-fits, searching-found, searching-done}
+use Rattle.outcomes.proofs.Ahead.{ahead-some}
 use Rattle.outcomes.proofs.first_from.Reads as first-from
 use Rattle.outcomes.proofs.first_from.Kinds as kinds
 use Rattle.outcomes.proofs.+first_from.Lts-first_from as lts
@@ -32,14 +33,22 @@ abbrev C : ℕ → lts.Claims
 C t = (joins-reads.Asked, joins-reads.Learnt, next-wait-reads.Asked, next-wait-reads.Learnt, count-at-reads.Asked, count-at-reads.Learnt, end-at-reads.Asked, end-at-reads.Learnt, cell-at-reads.Asked, cell-at-reads.Learnt, with-stone-reads.Asked, with-stone-reads.Learnt, below t, first-from.Post)
 
 abbrev Inv : lts.InvT-loop
-Inv t board player end i many number set wait others after next₀ n₀ next n = Searching board player t end i many number (set .rows) wait after others next n
+Inv t board player end i many number set wait others after next₀ n₀ passed₀ next n passed = Searching board player t end i many number (set .rows) wait after others next n passed
 
 abbrev μ-loop : lts.MeasureT-loop
-μ-loop t board player end i many number set wait others after next₀ n₀ next n = after - next
+μ-loop t board player end i many number set wait others after next₀ n₀ passed₀ next n passed = after - next
 
 module _ (t : ℕ) where
   joins-requires : lts.Need-joins-requires (C t) (here t) first-from.Post Inv μ-loop
   joins-requires c κs = c .before .pre .1 .0
+
+  sub-t20 : lts.Need-sub-t20 (C t) (here t) first-from.Post Inv μ-loop
+  sub-t20 c =
+      let g = c .before .before .before .pre .1 .1 .1 in
+      omega (arith, g .many-are, ahead-some (g .ahead))
+
+  cast-t21 : lts.Need-cast-t21 (C t) (here t) first-from.Post Inv μ-loop
+  cast-t21 c = omega (arith, c .before .before .before .pre .1 .1 .1 .few)
 
   returns : lts.Need-returns (C t) (here t) first-from.Post Inv μ-loop
   returns c = found-joining (c .before .before .before .args .player) (c .before .before .before .args .set .rows) (c .before .before .before .args .number) (sym (c .before .joins .ensures) ∙ c .if1 .taken)
@@ -47,8 +56,8 @@ module _ (t : ℕ) where
   next-wait-requires : lts.Need-next-wait-requires (C t) (here t) first-from.Post Inv μ-loop
   next-wait-requires c κs = (c .before .before .before .args .board, c .before .before .before .pre .1 .1 .0, c .before .before .before .pre .1 .1 .1 .ahead)
 
-  cast-t20 : lts.Need-cast-t20 (C t) (here t) first-from.Post Inv μ-loop
-  cast-t20 c = omega (arith, c .before .before .before .before .before .pre .1 .1 .1 .few)
+  cast-t23 : lts.Need-cast-t23 (C t) (here t) first-from.Post Inv μ-loop
+  cast-t23 c = omega (arith, c .before .before .before .before .before .pre .1 .1 .1 .few)
 
   returns-2 : lts.Need-returns-2 (C t) (here t) first-from.Post Inv μ-loop
   returns-2 c = found-here (c .before .before .before .before .before .args .player) (c .before .before .before .before .before .args .set .rows) (c .before .before .before .before .before .args .number) (sym (c .before .before .before .joins .ensures) ∙ c .before .before .if1 .left) (c .before .next-wait .ensures (c .before .before .before .before .before .args .board)) (omega arith)
@@ -66,7 +75,7 @@ module _ (t : ℕ) where
   add-next c = omega (arith, searching-first (c .before .before .before .before .before .before .before .args .player) (c .before .before .before .before .before .before .before .args .set .rows) (c .before .before .before .next-wait .ensures (c .before .before .before .before .before .before .before .args .board)) (λ e. absurd (omega arith)) (c .before .before .before .before .before .before .before .pre .1 .1) .room)
 
   loop-holds : lts.Need-loop-holds (C t) (here t) first-from.Post Inv μ-loop
-  loop-holds c = searching-starts (c .before .before .before .next-wait .ensures (c .before .before .before .before .before .before .before .args .board)) (λ e. absurd (omega arith)) (c .before .before .before .before .before .before .before .pre .1 .1) _ _ (c .before .count-at .ensures) (c .end-at .ensures)
+  loop-holds c = searching-starts (sym (c .before .before .before .before .before .joins .ensures) ∙ c .before .before .before .before .if1 .left) (c .before .before .before .next-wait .ensures (c .before .before .before .before .before .before .before .args .board)) (λ e. absurd (omega arith)) (c .before .before .before .before .before .before .before .pre .1 .1) _ _ (c .before .count-at .ensures) (c .end-at .ensures)
 
   cell-at-requires : lts.Need-cell-at-requires (C t) (here t) first-from.Post Inv μ-loop
   cell-at-requires c κs = searching-step (c .before .loop .inv) (omega arith) (c .before .before .before .before .before .before .before .before .before .pre .1 .1) .room
@@ -91,34 +100,47 @@ module _ (t : ℕ) where
   enum-known-found : lts.Need-enum-known-found (C t) (here t) first-from.Post Inv μ-loop
   enum-known-found c = search needs
 
-  returns-3 : lts.Need-returns-3 (C t) (here t) first-from.Post Inv μ-loop
-  returns-3 c =
-      let told = c .before in
-      let call = told .before .before in
-      let stone-on = call .before .before in
-      searching-found (call .before .before .before .before .before .loop .inv) (omega arith) _ _ _ (call .before .count-at2 .ensures) (rw (stone-on .before .cell-at .ensures) at (stone-on .with-stone .ensures)) (rw (told .found .given .1) at (call .first-from .ensures))
-
   enum-told : lts.Need-enum-told (C t) (here t) first-from.Post Inv μ-loop
   enum-told c = search needs
 
-  add-n : lts.Need-add-n (C t) (here t) first-from.Post Inv μ-loop
-  add-n c = rw (c .before .before .before .count-at2 .ensures) (omega (arith, searching-step (c .before .before .before .before .before .before .before .loop .inv) (omega arith) (c .before .before .before .before .before .before .before .before .before .before .before .before .before .before .before .pre .1 .1) .few))
+  returns-3 : lts.Need-returns-3 (C t) (here t) first-from.Post Inv μ-loop
+  returns-3 c =
+      let call = c .before .before in
+      let stone-on = call .before .before in
+      rw (c .enum-told .given .1)
+      (searching-found (call .before .before .before .before .before .loop .inv) (omega arith) _ _ (call .before .count-at2 .ensures) (rw (stone-on .before .cell-at .ensures) at (stone-on .with-stone .ensures)) _ (rw (c .enum-told .given .1) at (call .first-from .ensures)))
 
-  end-at-requires-2 : lts.Need-end-at-requires-2 (C t) (here t) first-from.Post Inv μ-loop
-  end-at-requires-2 c κs = searching-step (c .before .before .before .before .before .before .before .loop .inv) (omega arith) (c .before .before .before .before .before .before .before .before .before .before .before .before .before .before .before .pre .1 .1) .room
-
-  loop-less : lts.Need-loop-less (C t) (here t) first-from.Post Inv μ-loop
-  loop-less c = omega (arith, c .end-at2 .ensures, searching-step (c .before .before .before .before .before .before .before .before .loop .inv) (omega arith) (c .before .before .before .before .before .before .before .before .before .before .before .before .before .before .before .before .pre .1 .1) .on)
-
-  loop-again : lts.Need-loop-again (C t) (here t) first-from.Post Inv μ-loop
-  loop-again c =
+  add-passed : lts.Need-add-passed (C t) (here t) first-from.Post Inv μ-loop
+  add-passed c =
       let told = c .before in
       let call = told .before .before in
       let stone-on = call .before .before in
-      searching-again (call .before .before .before .before .before .loop .inv) (omega arith) (call .before .before .before .before .before .before .before .before .before .before .before .before .before .pre .1 .1) _ _ _ (call .before .count-at2 .ensures) (c .end-at2 .ensures) (rw (stone-on .before .cell-at .ensures) at (stone-on .with-stone .ensures)) (rw (told .enum-told .given .1) at (call .first-from .ensures))
+      omega (arith, searching-fits (call .before .before .before .before .before .loop .inv) (omega arith) _ _ (call .before .count-at2 .ensures) (rw (stone-on .before .cell-at .ensures) at (stone-on .with-stone .ensures)) (call .before .before .before .before .before .before .before .before .before .before .before .before .before .pre .1 .1) _ (rw (told .found .given .1) at (call .first-from .ensures)))
+
+  add-n : lts.Need-add-n (C t) (here t) first-from.Post Inv μ-loop
+  add-n c =
+      let call = c .before .before .before in
+      rw (call .before .count-at2 .ensures) (omega (arith, searching-step (call .before .before .before .before .before .loop .inv) (omega arith) (call .before .before .before .before .before .before .before .before .before .before .before .before .before .pre .1 .1) .few))
+
+  end-at-requires-2 : lts.Need-end-at-requires-2 (C t) (here t) first-from.Post Inv μ-loop
+  end-at-requires-2 c κs =
+      let call = c .before .before .before in
+      searching-step (call .before .before .before .before .before .loop .inv) (omega arith) (call .before .before .before .before .before .before .before .before .before .before .before .before .before .pre .1 .1) .room
+
+  loop-less : lts.Need-loop-less (C t) (here t) first-from.Post Inv μ-loop
+  loop-less c =
+      let call = c .before .before .before .before in
+      omega (arith, c .end-at2 .ensures, searching-step (call .before .before .before .before .before .loop .inv) (omega arith) (call .before .before .before .before .before .before .before .before .before .before .before .before .before .pre .1 .1) .on)
+
+  loop-again : lts.Need-loop-again (C t) (here t) first-from.Post Inv μ-loop
+  loop-again c =
+      let told = c .before .before in
+      let call = told .before .before in
+      let stone-on = call .before .before in
+      searching-again (call .before .before .before .before .before .loop .inv) (omega arith) _ _ (call .before .count-at2 .ensures) (rw (stone-on .before .cell-at .ensures) at (stone-on .with-stone .ensures)) (call .before .before .before .before .before .before .before .before .before .before .before .before .before .pre .1 .1) _ _ (c .end-at2 .ensures) (rw (told .found .given .1) at (call .first-from .ensures))
 
   returns-4 : lts.Need-returns-4 (C t) (here t) first-from.Post Inv μ-loop
   returns-4 c = searching-done (c .before .loop .inv) (omega arith)
 
 pub +first-from-spec : {M : Type 1} → statement M
-+first-from-spec = close μ (λ t. lts.spec (C t) (here t) first-from.Post Inv μ-loop (joins-requires t) (returns t) (next-wait-requires t) (cast-t20 t) (returns-2 t) (count-at-requires t) (div-others t) (end-at-requires t) (add-next t) (loop-holds t) (cell-at-requires t) (with-stone-requires t) (count-at-requires-2 t) (mul-own t) (add-first-from t) (first-from-requires t) (enum-known-found t) (returns-3 t) (enum-told t) (add-n t) (end-at-requires-2 t) (loop-less t) (loop-again t) (returns-4 t))
++first-from-spec = close μ (λ t. lts.spec (C t) (here t) first-from.Post Inv μ-loop (joins-requires t) (sub-t20 t) (cast-t21 t) (returns t) (next-wait-requires t) (cast-t23 t) (returns-2 t) (count-at-requires t) (div-others t) (end-at-requires t) (add-next t) (loop-holds t) (cell-at-requires t) (with-stone-requires t) (count-at-requires-2 t) (mul-own t) (add-first-from t) (first-from-requires t) (enum-known-found t) (enum-told t) (returns-3 t) (add-passed t) (add-n t) (end-at-requires-2 t) (loop-less t) (loop-again t) (returns-4 t))
