@@ -9,12 +9,15 @@ use Rattle.rules.specs.Fair.{firstOnSetUp, firstNotApart, firstTwice, firstNotE
 use Rattle.rules.specs.Live.{idleCount}
 use Rattle.rules.specs.Reading.{Result, refused, got}
 use Rattle.rules.specs.Outcomes.{outcomeCount}
+use Rattle.rules.specs.Passing.{passedOver}
 use Rattle.rules.specs.Entries.{_>>=_, refuseIf, refuseFault, fair, satisfying}
 use Rattle.rules.specs.declared.Board.{Board}
 use Rattle.rules.specs.declared.Verdict.the-variants.{OnSetUp, NotApart, NotElusive, TooManyOutcomes, SameBranch}
 use Rattle.live.specs.Thinning.{KeepsLive}
 use Rattle.judging.specs.declared.Checked.{Checked}
 use Rattle.judging.specs.declared.Checked.the-variants as Checked
+use Rattle.judging.specs.declared.AcceptedRead.{AcceptedRead}
+use Rattle.judging.specs.declared.AcceptedRead.the-variants as AcceptedRead
 use Rattle.judging.specs.declared.FairRead.{FairRead}
 use Rattle.judging.specs.declared.FairRead.the-variants as FairRead
 
@@ -70,3 +73,8 @@ pub record Passed (t : List ℕ) (b : Board) (s : Sheet) (check : Result Sheet) 
 abbrev pub Tells : List ℕ → Board → Sheet → Result Sheet → FairRead → Type 0
 Tells t b s check (FairRead.Got count idle) = Passed t b s check count idle
 Tells t b s check (FairRead.Refused v) = check ≡ refused v
+
+-- what all checks tell of a sheet, and leave in the table: the same, and how many outcomes were passed over
+abbrev pub TellsAll : List ℕ → Board → Sheet → AcceptedRead → Type 0
+TellsAll t b s (AcceptedRead.Got count passed idle) = Passed t b s (passing s) count idle × (passed ≡ passedOver s)
+TellsAll t b s (AcceptedRead.Refused v) = passing s ≡ refused v

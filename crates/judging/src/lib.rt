@@ -8,7 +8,7 @@ ghost use Rattle.rules.specs.Entries.{fair, judged};
 ghost use Rattle.rules.specs.declared.Board as declared;
 ghost use Rattle.nodes.specs.Sheets.{HoldsSheet, SomeSheet, HoldsWhole, SomeWhole};
 ghost use Rattle.live.specs.Thinning.{KeepsLive};
-ghost use Rattle.judging.specs.Checked.{fromFree, fromApart, fromTwice, fromElusive, fromCount, passing, SomeLiving, Says, Tells};
+ghost use Rattle.judging.specs.Checked.{fromFree, fromApart, fromTwice, fromElusive, fromCount, SomeLiving, Says, passing, Tells, TellsAll};
 use fair::Fault;
 use fair::branch_twice;
 use fair::not_apart;
@@ -31,6 +31,19 @@ use rules::Verdict;
 pub enum FairRead {
     Got { outcomes: u32, idle: u32 },
     Refused { verdict: Verdict },
+}
+
+// A sheet that is accepted, its number of outcomes, how many of them were passed over, and how many of its moves aren't live; or the
+// refusal.
+pub enum AcceptedRead {
+    Got {
+        outcomes: u32,
+        passed: u32,
+        idle: u32,
+    },
+    Refused {
+        verdict: Verdict,
+    },
 }
 
 // What the checks over every line come to: how many moves aren't live, or the refusal.
@@ -175,21 +188,26 @@ fn count_moves(table: &[u32]) -> usize
 }
 
 // Whether the sheet in the table is fair and satisfying: 20, 10, 24, 11, 12, 13.
-pub fn accept_sheet(table: &mut [u32], board: Board, player: Player, setup: SetUp) -> FairRead
+pub fn accept_sheet(table: &mut [u32], board: Board, player: Player, setup: SetUp) -> AcceptedRead
     requires { ⌜ SomeWhole (now table) board setup ⌝ }
-    ensures { λ r. ⌜ ((s : Sheet) → HoldsWhole (now (table .entry)) board setup s → s .player ≡ player → Tells (now (table .exit)) board s (passing s) r) ⌝ }
+    ensures { λ r. ⌜ ((s : Sheet) → HoldsWhole (now (table .entry)) board setup s → s .player ≡ player → TellsAll (now (table .exit)) board s r) ⌝ }
 {
     let read = fair_sheet(table, board, setup);
     match read {
-        FairRead::Refused { verdict } => FairRead::Refused { verdict },
+        FairRead::Refused { verdict } => AcceptedRead::Refused { verdict },
         FairRead::Got { outcomes, idle } => {
             let own = setup.own;
-            if let Unjoined::First { number } = first_unjoined(table, board, player, 0, own) {
-                return FairRead::Refused {
+            let found = first_unjoined(table, board, player, 0, own);
+            match found {
+                Unjoined::First { number } => AcceptedRead::Refused {
                     verdict: Verdict::NotJoined { index: number },
-                };
+                },
+                Unjoined::Nothing { passed } => AcceptedRead::Got {
+                    outcomes,
+                    passed,
+                    idle,
+                },
             }
-            FairRead::Got { outcomes, idle }
         }
     }
 }
@@ -203,12 +221,17 @@ pub fn judge_table(table: &mut [u32], board: Board, player: Player, setup: SetUp
     let waits = end_at(table, 0) - moves;
     let accepted = accept_sheet(table, board, player, setup);
     match accepted {
-        FairRead::Refused { verdict } => verdict,
-        FairRead::Got { outcomes, idle } => Verdict::Accepted {
+        AcceptedRead::Refused { verdict } => verdict,
+        AcceptedRead::Got {
+            outcomes,
+            passed,
+            idle,
+        } => Verdict::Accepted {
             counts: Counts {
                 moves: moves as u32,
                 waits: waits as u32,
                 outcomes,
+                passed,
                 idle,
             },
         },

@@ -12,10 +12,10 @@ unfolding leading decimal
 largest = refl
 
 -- `0`, `0`, `0`, `0`, `7`, `3`, `8`
-p8 : reportLine (told (Accepted (record { moves = 7; waits = 3; outcomes = 8; idle = 0 }))) ≡ 48 ∷ 9 ∷ 48 ∷ 9 ∷ 48 ∷ 9 ∷ 48 ∷ 9 ∷ 55 ∷ 9 ∷ 51 ∷ 9 ∷ 56 ∷ 10 ∷ []
+p8 : reportLine (told (Accepted (record { moves = 7; waits = 3; outcomes = 8; passed = 3; idle = 0 }))) ≡ 48 ∷ 9 ∷ 48 ∷ 9 ∷ 48 ∷ 9 ∷ 48 ∷ 9 ∷ 55 ∷ 9 ∷ 51 ∷ 9 ∷ 56 ∷ 10 ∷ []
 unfolding leading decimal fields lineOf reportLine
 p8 = refl
 
 -- 7 moves, of which 2 are not live
-all : allNumbers (told (Accepted (record { moves = 7; waits = 3; outcomes = 8; idle = 2 }))) ≡ 0 ∷ 0 ∷ 0 ∷ 0 ∷ 7 ∷ 3 ∷ 8 ∷ 0 ∷ 2 ∷ []
+all : allNumbers (told (Accepted (record { moves = 7; waits = 3; outcomes = 8; passed = 3; idle = 2 }))) ≡ 0 ∷ 0 ∷ 0 ∷ 0 ∷ 7 ∷ 3 ∷ 8 ∷ 3 ∷ 2 ∷ []
 all = refl

@@ -4,13 +4,9 @@ use mathlib.Core.List.{List, [], _∷_}
 use Rattle.rules.specs.declared.Counts.{Counts}
 use Rattle.rules.specs.declared.Told.{Told}
 
--- outcomes passed over: none until C-15
-abbrev pub passedOver : Counts → ℕ
-passedOver n = 0
-
 -- moves, waits, outcomes, outcomes passed over, moves that are not live
 abbrev pub allCounts : Counts → List ℕ
-allCounts n = n .moves ∷ n .waits ∷ n .outcomes ∷ passedOver n ∷ n .idle ∷ []
+allCounts n = n .moves ∷ n .waits ∷ n .outcomes ∷ n .passed ∷ n .idle ∷ []
 
 -- verdict, line, cell, index, and all counts
 abbrev pub allNumbers : Told → List ℕ

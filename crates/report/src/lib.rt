@@ -26,6 +26,7 @@ fn refusal(number: u32, line: u32, cell: u32, index: u32) -> Told
             moves: 0,
             waits: 0,
             outcomes: 0,
+            passed: 0,
             idle: 0,
         },
     }
@@ -74,8 +75,6 @@ pub fn tell_all(v: Verdict) -> [u32; 9]
 {
     let told = tell(v);
     let counts = told.counts;
-    // No outcome is passed over until C-15.
-    let passed = 0;
     [
         told.number,
         told.line,
@@ -84,7 +83,7 @@ pub fn tell_all(v: Verdict) -> [u32; 9]
         counts.moves,
         counts.waits,
         counts.outcomes,
-        passed,
+        counts.passed,
         counts.idle,
     ]
 }

@@ -31,10 +31,9 @@ use Rattle.loading.specs.declared.Loaded.{Loaded}
 use Rattle.loading.specs.declared.SheetRead.{SheetRead}
 use Rattle.loading.specs.declared.SheetRead.the-variants as SheetRead
 use Rattle.loading.specs.Copied.{Copied}
-use Rattle.judging.specs.Checked.{passing, Tells}
-use Rattle.judging.specs.declared.FairRead.{FairRead}
-use Rattle.judging.specs.declared.FairRead.the-variants as FairRead
-use Rattle.judging.proofs.Accepting.{passed-of, refused-of}
+use Rattle.judging.specs.Checked.{passing, TellsAll}
+use Rattle.judging.specs.declared.AcceptedRead.{AcceptedRead}
+use Rattle.judging.specs.declared.AcceptedRead.the-variants as AcceptedRead
 use Rattle.live.specs.Thinning.{KeepsLive}
 use Rattle.sheet.specs.Playing.{ReadyHeld, ReadyReply, PlayedKept}
 use Rattle.sheet.proofs.Judging.{text-accepted}
@@ -106,22 +105,22 @@ pub unread : (t : Bytes) (v : Verdict) → readText t ≡ refused v → accepted
 unfolding _>>=_
 unread t v e = text-accepted leastWorkspace t (omega arith) ∙ ap (λ (r : Result Sheet). r >>= passing) e
 
-module _ (t : Bytes) {table : List ℕ} {b : Board} {p : Player} {u : SetUp} (h : SheetHeld t table b p u) (after : List ℕ) (a : FairRead) (k : Tells after b (h .sheet) (passing (h .sheet)) a) where
+module _ (t : Bytes) {table : List ℕ} {b : Board} {p : Player} {u : SetUp} (h : SheetHeld t table b p u) (after : List ℕ) (a : AcceptedRead) (k : TellsAll after b (h .sheet) a) where
   of-passing : (r : Result Sheet) → passing (h .sheet) ≡ r → accepted leastWorkspace t ≡ r
   unfolding _>>=_
   of-passing r e = text-accepted leastWorkspace t (omega arith) ∙ ap (λ (z : Result Sheet). z >>= passing) (h .reads) ∙ e
 
-  pub held-refused : (v : Verdict) → a ≡ FairRead.Refused v → accepted leastWorkspace t ≡ refused v
-  held-refused v e = of-passing (refused v) (refused-of after b (h .sheet) _ a k v e)
+  pub held-refused : (v : Verdict) → a ≡ AcceptedRead.Refused v → accepted leastWorkspace t ≡ refused v
+  held-refused v e = of-passing (refused v) (subst (TellsAll after b (h .sheet)) e k)
 
-  pub held-keeps : (count idle : ℕ) → a ≡ FairRead.Got count idle → KeepsLive after b (h .sheet) idle
-  held-keeps count idle e = passed-of after b (h .sheet) _ a k count idle e .keeps
+  pub held-keeps : (count passed idle : ℕ) → a ≡ AcceptedRead.Got count passed idle → KeepsLive after b (h .sheet) idle
+  held-keeps count passed idle e = subst (TellsAll after b (h .sheet)) e k .0 .keeps
 
-  pub held-ready : (count idle : ℕ) → a ≡ FairRead.Got count idle → (whole : List ℕ) → HoldsSheet whole b (h .sheet) → ReadyHeld t whole b p u
-  held-ready count idle e whole g =
+  pub held-ready : (count passed idle : ℕ) → a ≡ AcceptedRead.Got count passed idle → (whole : List ℕ) → HoldsSheet whole b (h .sheet) → ReadyHeld t whole b p u
+  held-ready count passed idle e whole g =
       record {
         held = record { sheet = h .sheet; reads = h .reads; for = h .for; whole = record { tree = g; set-up = h .whole .set-up } };
-        is-accepted = of-passing (got (h .sheet)) (passed-of after b (h .sheet) _ a k count idle e .passes);
+        is-accepted = of-passing (got (h .sheet)) (subst (TellsAll after b (h .sheet)) e k .0 .passes);
       }
 
 -- where no move was taken out the tree is whole, and else it is read again

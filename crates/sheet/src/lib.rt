@@ -20,6 +20,7 @@ ghost use Rattle.sheet.specs.Playing.{ReadyHeld, ReadyReply, SomeReady, 
 use answering::PlayedOut;
 use answering::play_moves;
 use cells::Cells;
+use judging::AcceptedRead;
 use judging::FairRead;
 use judging::accept_sheet;
 use judging::fair_sheet;
@@ -248,8 +249,12 @@ fn ready_sheet(
 {
     let accepted = accept_sheet(table, board, player, setup);
     match accepted {
-        FairRead::Refused { verdict } => SheetRead::Refused { verdict },
-        FairRead::Got { outcomes: _, idle } => {
+        AcceptedRead::Refused { verdict } => SheetRead::Refused { verdict },
+        AcceptedRead::Got {
+            outcomes: _,
+            passed: _,
+            idle,
+        } => {
             whole_again(sheet, table, idle);
             SheetRead::Got { board, player }
         }

@@ -28,36 +28,37 @@ first-unjoined-requires c κs =
       ),
     )
 
-enum-known-number : tie.Need-enum-known-number
-enum-known-number c = search needs
+enum-known-found : tie.Need-enum-known-found
+enum-known-found c = search needs
+
+enum-known-found-2 : tie.Need-enum-known-found-2
+enum-known-found-2 c = search needs
 
 same-length : tie.Need-same-length
 same-length c = search needs
 
 returns : tie.Need-returns
-returns c = λ s h same.
-    let walk = c .before .before .before in
-    let told = walk .before .before .before .before in
-    accept-unjoined _ _ s _ same _ (told .before .before .before .before .fair-sheet .ensures s h) _ _ (told .read2 .given .1) _ (h .set-up .stones .own-held) _ (walk .first-unjoined .ensures) _
-    (c .before .number .given .1)
-
-enum-told : tie.Need-enum-told
-enum-told c = search needs
+returns c = λ s h same. accept-refused _ _ s _ same _ (c .before .before .before .before .before .fair-sheet .ensures s h) _ (c .before .read .given .1)
 
 same-length-2 : tie.Need-same-length-2
 same-length-2 c = search needs
 
 returns-2 : tie.Need-returns-2
-returns-2 c = λ s h same. accept-refused _ _ s _ same _ (c .before .before .before .before .before .fair-sheet .ensures s h) _ (c .before .read .given .1)
+returns-2 c = λ s h same.
+    let walk = c .before .before .before in
+    let told = walk .before .before .before .before in
+    accept-unjoined _ _ s _ same _ (told .before .before .before .before .fair-sheet .ensures s h) _ _ (told .read2 .given .1) _ (h .set-up .stones .own-held) _ (walk .first-unjoined .ensures) _
+    (c .before .found .given .1)
 
 same-length-3 : tie.Need-same-length-3
 same-length-3 c = search needs
 
 returns-3 : tie.Need-returns-3
 returns-3 c = λ s h same.
-    let walk = c .before .before in
+    let walk = c .before .before .before in
     let told = walk .before .before .before .before in
-    accept-got _ _ s _ same _ (told .before .before .before .before .fair-sheet .ensures s h) _ _ (told .read2 .given .1) _ (h .set-up .stones .own-held) _ (walk .first-unjoined .ensures) (c .enum-told .given .1)
+    accept-got _ _ s _ same _ (told .before .before .before .before .fair-sheet .ensures s h) _ _ (told .read2 .given .1) _ (h .set-up .stones .own-held) _ (walk .first-unjoined .ensures) _
+    (c .before .found2 .given .1)
 
 pub accept-sheet-spec : {M : Type 1} → statement M
 accept-sheet-spec =
@@ -67,10 +68,10 @@ accept-sheet-spec =
     enum-known-read
     enum-known-read-2
     first-unjoined-requires
-    enum-known-number
+    enum-known-found
+    enum-known-found-2
     same-length
     returns
-    enum-told
     same-length-2
     returns-2
     same-length-3

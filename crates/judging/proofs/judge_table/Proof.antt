@@ -26,12 +26,12 @@ enum-known-accepted c = search needs
 enum-known-accepted-2 : tie.Need-enum-known-accepted-2
 enum-known-accepted-2 c = search needs
 
-cast-moves : tie.Need-cast-t19
+cast-moves : tie.Need-cast-t20
 cast-moves c =
     let pre = c .before .before .before .before .before .before .before .before .before .before .before .before .pre in
     omega (arith, few-nodes (pre .whole .tree), c .before .before .before .before .before .before .before .before .before .count-moves .ensures _ _ (pre .whole .tree))
 
-cast-waits : tie.Need-cast-t20
+cast-waits : tie.Need-cast-t21
 cast-waits c =
     let pre = c .before .before .before .before .before .before .before .before .before .before .before .before .pre in
     omega (arith, few-nodes (pre .whole .tree), sheet-waits (pre .whole .tree), c .before .before .before .before .before .before .before .end-at .ensures)
@@ -48,7 +48,7 @@ same-length-2 c = search needs
 returns-2 : tie.Need-returns-2
 returns-2 c = λ s h same.
     let moves = c .before .before .before .before .before .before .before .before .before .count-moves .ensures _ s (h .tree) in
-    judged-accepted _ _ s _ (c .before .before .before .before .before .accept-sheet .ensures s h same) _ _ _ _ (c .before .accepted2 .given .1) moves
+    judged-accepted _ _ s _ (c .before .before .before .before .before .accept-sheet .ensures s h same) _ _ _ _ _ (c .before .accepted2 .given .1) moves
     (omega (arith, moves, sheet-waits (h .tree), c .before .before .before .before .before .before .before .end-at .ensures))
 
 pub judge-table-spec : {M : Type 1} → statement M

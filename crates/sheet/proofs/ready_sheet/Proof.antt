@@ -18,7 +18,7 @@ whole-again-requires c κs =
     let told = c .before .before in
     let accept = told .before .before .before .before in
     let h = accept .before .before .before .before .pre in
-    held-keeps _ h _ _ (accept .accept-sheet .ensures (h .sheet) (h .whole) (h .for)) _ _ (told .accepted2 .given .1) .holds .long
+    held-keeps _ h _ _ (accept .accept-sheet .ensures (h .sheet) (h .whole) (h .for)) _ _ _ (told .accepted2 .given .1) .holds .long
 
 same-length : tie.Need-same-length
 same-length c = search needs
@@ -40,7 +40,7 @@ returns-2 c =
     let h = accept .before .before .before .before .pre in
     let a = accept .accept-sheet .ensures (h .sheet) (h .whole) (h .for) in
     let e = told .accepted2 .given .1 in
-    held-ready _ h _ _ a _ _ e _ (again .whole-again .ensures _ (h .sheet) (h .reads) (held-keeps _ h _ _ a _ _ e))
+    held-ready _ h _ _ a _ _ _ e _ (again .whole-again .ensures _ (h .sheet) (h .reads) (held-keeps _ h _ _ a _ _ _ e))
 
 pub ready-sheet-spec : {M : Type 1} → statement M
 ready-sheet-spec =
