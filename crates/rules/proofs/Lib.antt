@@ -27,6 +27,7 @@ pub mod Living
 pub mod LineOrder
 pub mod Passing
 pub mod Shortest
+pub mod Stopping
 pub mod Cover
 pub mod GoesOn
 pub mod SameReplies

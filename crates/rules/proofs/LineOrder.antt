@@ -7,19 +7,16 @@ use mathlib.Core.Bool.{not}
 use mathlib.Core.List.{List, [], _∷_, _++_, map, map-append}
 use mathlib.Core.Option.{none}
 use lib.Dec.{T, eqb, eqb→eq}
-use Rattle.rules.specs.Words.{_∈_, among}
+use Rattle.rules.specs.Words.{among}
 use Rattle.rules.specs.Tree.{Waits, noWaits, wait, Moves, noMoves, move, Move, Sheet, moveCount, waitCount}
 use Rattle.rules.specs.Live.{Shared, andThis, isLive, living, livingAfter}
 use Rattle.rules.specs.Passing.{listsOfWaits, listsOfMoves, lists, linesBeside, UnlikeWaits, UnlikeMoves}
 use Rattle.rules.specs.Plain.{linesOfWaits, linesOfMoves, linesOf, upFrom, WellRead}
+use Rattle.rules.specs.Stopping.{linesIn, Above, InLineOrder}
 use Rattle.rules.proofs.Tests.{false-of, nor, by-cond}
 use Rattle.rules.proofs.EachOutcome.{Each, each-out, each-mono, each-append, each-map, each-with}
 
--- numbers that ascend, the first above i
-unfoldable pub Above : ℕ → List ℕ → Type 0
-Above i [] = Unit {0}
-Above i (x ∷ xs) = (i < x) × Above x xs
-
+-- numbers that ascend
 above-up : (i j n : ℕ) → i < j → Above i (upFrom j n)
 unfolding Above upFrom
 above-up i j zero h = tt
@@ -64,12 +61,12 @@ mutual
       (none-beside line line ms (omega arith) later, unlike-waits line ws (above-left line (linesOfWaits ws) (linesOfMoves ms) (a .1)), unlike-moves line ms later)
 
 -- the second list with some of its numbers left out
-data Within : List ℕ → List ℕ → Type 0 where
+pub data Within : List ℕ → List ℕ → Type 0 where
   none-in : Within [] []
   left-out : {x : ℕ} {xs ys : List ℕ} → Within xs ys → Within xs (x ∷ ys)
   taken-in : {x : ℕ} {xs ys : List ℕ} → Within xs ys → Within (x ∷ xs) (x ∷ ys)
 
-within-above : (i : ℕ) {xs ys : List ℕ} → Within xs ys → Above i ys → Above i xs
+pub within-above : (i : ℕ) {xs ys : List ℕ} → Within xs ys → Above i ys → Above i xs
 unfolding Above
 within-above i none-in a = tt
 within-above i (left-out {x} {xs} {ys} w) a = within-above i w (above-less i x ys (omega (arith, a .0)) (a .1))
@@ -111,21 +108,21 @@ mutual
 lines-above : (s : Sheet) → WellRead s → Above 1 (linesOf s)
 lines-above s r = subst⁻¹ (Above 1) (r .in-order) (above-up 1 (s .root .line) (moveCount s + waitCount s) (omega (arith, r .first-line)))
 
-live-lines-above : (s : Sheet) → WellRead s → Above (s .root .line) (linesOfWaits (living (s .root .waits)))
+pub root-line : (s : Sheet) → WellRead s → 1 < s .root .line
+root-line s r = omega (arith, r .first-line)
+
+pub live-lines-above : (s : Sheet) → WellRead s → Above (s .root .line) (linesOfWaits (living (s .root .waits)))
 unfolding linesOf Above
 live-lines-above s r = within-above (s .root .line) (living-within (s .root .waits)) (lines-above s r .1)
 
 pub unlike-lines : (s : Sheet) → WellRead s → UnlikeWaits (living (s .root .waits))
 unlike-lines s r = unlike-waits (s .root .line) (living (s .root .waits)) (live-lines-above s r)
 
--- the lines of moves; those of each list of waits and moves are some of theirs
-abbrev pub linesIn : List Move → List ℕ
-linesIn l = map (λ (m : Move). m .line) l
-
-abbrev InLines : List ℕ → List Move → Type 0
+-- the lines of each list of waits and moves are some of theirs
+abbrev pub InLines : List ℕ → List Move → Type 0
 InLines ys l = Within (linesIn l) ys
 
-lines-both : (k l : List Move) {ys vs : List ℕ} → InLines ys k → InLines vs l → InLines (ys ++ vs) (k ++ l)
+pub lines-both : (k l : List Move) {ys vs : List ℕ} → InLines ys k → InLines vs l → InLines (ys ++ vs) (k ++ l)
 lines-both k l {ys} {vs} v w = subst⁻¹ (λ (xs : List ℕ). Within xs (ys ++ vs)) (map-append (λ (m : Move). m .line) k l) (within-both v w)
 
 mutual
@@ -151,12 +148,12 @@ mutual
       (each-mono (InLines (linesOfMoves ms)) (InLines all) (λ l w. left-out (within-second (linesOfWaits ws) w)) (listsOfMoves ms) (moves-within ms))
 
 -- C-15: an outcome's moves are listed in line order
-pub in-line-order : (s : Sheet) → WellRead s → (l : List Move) → l ∈ lists s → Above 1 (linesIn l)
+pub in-line-order : InLineOrder
 unfolding lists linesOf Above
 in-line-order s r =
     let ws = living (s .root .waits) in
     each-out (λ l. Above 1 (linesIn l)) (lists s)
     (each-map (λ l. Above 1 (linesIn l)) (λ l. s .root ∷ l) (listsOfWaits ws)
     (each-mono (InLines (linesOfWaits ws)) (λ l. Above 1 (linesIn (s .root ∷ l)))
-    (λ l w. (lines-above s r .0, within-above (s .root .line) w (live-lines-above s r)))
+    (λ l w. (root-line s r, within-above (s .root .line) w (live-lines-above s r)))
     (listsOfWaits ws) (waits-within ws)))

@@ -97,6 +97,20 @@ some-any p x (y ∷ ys) h px =
       | inr t ↦ right (p y) (any p ys) (some-any p x ys t px)
     ]
 
+pub any-in : {A : Type 0} (p : A → Bool) (xs : List A) → T (any p xs) → (x : A) × (x ∈ xs) × T (p x)
+unfolding any
+any-in p [] h = absurd h
+any-in p (y ∷ ys) h =
+    elim (cases (p y) (any p ys) h) [
+      | inl t ↦ (y, at-head, t)
+      | inr t ↦ let r = any-in p ys t in (r .0, in-tail (r .1), r .2)
+    ]
+
+pub in-any : {A : Type 0} (p : A → Bool) (x : A) (xs : List A) → x ∈ xs → T (p x) → T (any p xs)
+unfolding any
+in-any p x (y ∷ ys) at-head h = left (p x) (any p ys) h
+in-any p x (y ∷ ys) (in-tail i) h = right (p y) (any p ys) (in-any p x ys i h)
+
 -- append
 or-assoc : (a b c : Bool) → (a || (b || c)) ≡ ((a || b) || c)
 or-assoc true b c = refl

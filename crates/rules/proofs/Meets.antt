@@ -5,6 +5,7 @@ use native.Mathlib.Omega.{arith}
 use mathlib.Core.List.{[], _∷_}
 use mathlib.Core.Option.{none}
 use lib.Dec.{T}
+use lib.ListN.{drop}
 use Rattle.rules.specs.Sizes.{leastWorkspace}
 use Rattle.rules.specs.Words.{at-head}
 use Rattle.rules.specs.Board.{smallest}
@@ -17,13 +18,16 @@ use Rattle.rules.specs.Plain.{IsSheet, WellRead, IsElusive}
 use Rattle.rules.specs.Promise.{Ruled, no-move, one-move, MovesToEmpty}
 use Rattle.rules.specs.Holder.{Chosen, no-round, round, liveChoice}
 use Rattle.rules.specs.Spare.{StillAccepted, gameAfter}
-use Rattle.rules.specs.Entries.{read, readUpTo, fair}
+use Rattle.rules.specs.Passing.{lists}
+use Rattle.rules.specs.Entries.{read, readUpTo, fair, judge, judged}
+use Rattle.rules.specs.Stopping.{PassedBy, LookedAndPassed}
 use Rattle.rules.specs.SameReplies.{SameReplies}
 use Rattle.rules.specs.UpTo.{NoSizeFrom}
 use Rattle.rules.specs.Before.{WithoutSetUp, SameWithoutSetUp}
 use Rattle.rules.specs.Once.{WithoutTwice, fairWithout24}
-use Rattle.rules.specs.Samples.{byteOf, sheet, P1, P3, p1, p3, stones, onStones, spare, onSpare}
-use Rattle.rules.specs.Computed.{p1-accepted, p1-opens, p1-header, p3-read, stones-accepted, stones-open, spare-taken, spare-answers}
+use Rattle.rules.specs.Samples.{byteOf, sheet, P1, P3, P8, p1, p3, p8, p8-first, p8-second, stones, onStones, spare, onSpare}
+use Rattle.rules.specs.Computed.{p1-accepted, p1-opens, p1-header, p3-read, stones-accepted, stones-open, spare-taken, spare-answers, p8-counts, p8-passed}
+use Rattle.rules.specs.declared.Verdict.the-variants.{Accepted}
 use Rattle.rules.proofs.Steps.{some-inj}
 use Rattle.rules.proofs.Lines.{header-back, no-set-up-line}
 use Rattle.rules.proofs.Unread.{read-no-line}
@@ -31,6 +35,7 @@ use Rattle.rules.proofs.UpTo.{small-same}
 use Rattle.rules.proofs.Before.{same-without}
 use Rattle.rules.proofs.Once.{same-once, accepted-once}
 use Rattle.rules.proofs.Spare.{live-answers, spared-as-before}
+use Rattle.rules.proofs.Stopping.{passed-exactly, all-looked-or-passed}
 use Rattle.rules.proofs.Written.{reads-exactly}
 use Rattle.rules.proofs.Given.{accepted-exactly}
 use Rattle.rules.proofs.Cover.{demand-3}
@@ -104,6 +109,17 @@ unfolding start gameAfter
 spare-answer =
     live-answers onSpare (spare-sheet .fair .read .spells .well) (spare-sheet .fair .apart) (spare-sheet .fair .elusive) [] 4
     (the-first (one-later (the-first tt))) spare-answers
+
+-- P8: its second outcome is passed over, and its outcomes are those looked at and those passed over
+pub p8-sheet : IsSheet leastWorkspace (sheet P8) p8
+p8-sheet = accepted-exactly leastWorkspace (sheet P8) p8 .0 (p8-passed .0)
+
+pub p8-second-passed : PassedBy p8 (p8-first ∷ []) p8-second
+p8-second-passed = passed-exactly p8 (p8-sheet .fair .read .spells .well) (p8-first ∷ []) (drop 2 (lists p8)) p8-second (p8-passed .2) .0 (p8-passed .3)
+
+pub p8-all : LookedAndPassed leastWorkspace (sheet P8) p8-counts
+unfolding judge judged
+p8-all = all-looked-or-passed leastWorkspace (sheet P8) p8-counts (ap judged (p8-passed .0) ∙ ap Accepted (p8-passed .1))
 
 -- P3 is read, and the one move of its wait is its fault
 pub p3-faulty : IsElusive (p3 .board) (record { line = 3; moves = move 4 3 noWaits noMoves }) → ⊥

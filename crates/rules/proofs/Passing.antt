@@ -17,6 +17,7 @@ use Rattle.rules.specs.Live.{living}
 use Rattle.rules.specs.Outcomes.{eachWithEach, outcomes, outcomeCount, outcomesOfWaits, outcomesOfMoves, countOfWaits, countOfMoves}
 use Rattle.rules.specs.Passing.{listsOfWaits, listsOfMoves, lists, stonesOf, beginnings, shortest, begins, beginsThere, isPassed, passedAmong, passedOver, passedFrom, lookedInWaits, lookedInMoves, lookedAt, linesBeside, UnlikeWaits, UnlikeMoves}
 use Rattle.rules.specs.Plain.{WellRead}
+use Rattle.rules.specs.Stopping.{ListsOfOutcomes}
 use Rattle.rules.specs.declared.Board.{Board}
 use Rattle.rules.specs.declared.Player.{Player}
 use Rattle.rules.proofs.Tests.{holds-of, true-of, turned, nor-left, nor-right}
@@ -217,7 +218,7 @@ mutual
       ∙ ap₂ _++_ (stones-first [] (record { line = line; cell = c; waits = ws }) (listsOfWaits ws) ∙ ap (map (λ o. stone c ++ o)) (stones-waits ws)) (stones-moves ms)
 
 -- the outcome of a number is the own set-up stones with the stones of the list of that number
-pub lists-outcomes : (s : Sheet) → map (λ l. ownCells (s .set-up) ++ stonesOf l) (lists s) ≡ outcomes s
+pub lists-outcomes : ListsOfOutcomes
 unfolding lists outcomes atStart
 lists-outcomes s =
     let live = living (s .root .waits) in

@@ -25,6 +25,7 @@ pub mod Once
 pub mod Promise
 pub mod Holder
 pub mod Spare
+pub mod Stopping
 pub mod GoesOn
 pub mod Samples
 pub mod Computed

@@ -1,5 +1,5 @@
 -- "Sample sheets" and "Traps for the setter's tool": two tables of requests and replies, P1 to P12 the first.
-use Prim.Native.Nat.{ℕ}
+use Prim.Native.Nat.{ℕ, _+_}
 use Prim.Native.Char.{code}
 use Prim.Native.String as S
 use mathlib.Core.List.{List, [], _∷_, map}
@@ -8,7 +8,7 @@ use Rattle.rules.specs.Sizes.{leastWorkspace}
 use Rattle.rules.specs.Words.{if_then_else_, oneIf}
 use Rattle.rules.specs.Text.{Bytes}
 use Rattle.rules.specs.Lines.{own, opp}
-use Rattle.rules.specs.Tree.{noWaits, wait, Moves, noMoves, move, Sheet}
+use Rattle.rules.specs.Tree.{Waits, noWaits, wait, Moves, noMoves, move, Move, Sheet}
 use Rattle.rules.specs.Verdict.{told}
 use Rattle.rules.specs.Reading.{Result, refused, got, readSheet}
 use Rattle.rules.specs.Outcomes.{outcomeCount}
@@ -78,6 +78,28 @@ p1 = onB1 (move 4 3 noWaits (move 5 4 noWaits noMoves))
 
 abbrev pub p3 : Sheet
 p3 = onB1 (move 4 3 noWaits noMoves)
+
+-- the tree that P8 writes, a wait for one of two cells at a time, and the moves of its first two outcomes: b1 and a2 join
+abbrev pub either : (line c d : ℕ) → Waits → Waits
+either line c d ws = wait line (move (line + 1) c noWaits (move (line + 2) d noWaits noMoves)) ws
+
+abbrev pub p8 : Sheet
+p8 =
+    record {
+      board = record { columns = 3; rows = 2 };
+      player = D;
+      set-up = [];
+      root = record { line = 2; cell = 0; waits = either 3 2 3 (either 6 4 5 (either 9 1 6 noWaits)) };
+    }
+
+abbrev leaf : (line cell : ℕ) → Move
+leaf line cell = record { line = line; cell = cell; waits = noWaits }
+
+abbrev pub p8-first : List Move
+p8-first = p8 .root ∷ leaf 4 2 ∷ leaf 7 4 ∷ leaf 10 1 ∷ []
+
+abbrev pub p8-second : List Move
+p8-second = p8 .root ∷ leaf 4 2 ∷ leaf 7 4 ∷ leaf 11 6 ∷ []
 
 -- on 19 by 19 a root without a stone, and a wait for a1 or b1
 abbrev pub large : Sheet
