@@ -1,7 +1,7 @@
 -- The checks of a held sheet one after another, and what judge replies.
 use mathlib.Core.Path.{_≡_, sym, ap, _∙_, subst}
 use mathlib.Core.List.{List}
-use Prim.Native.Nat.{ℕ, _+_, _-_, _≤_}
+use Prim.Native.Nat.{ℕ, _+_, _≤_}
 use native.Mathlib.Omega.{arith}
 use Rattle.rules.specs.Sizes.{mostNodes}
 use Rattle.rules.specs.Tree.{Sheet, ownCells, atStart, moveCount, waitCount}
@@ -17,7 +17,7 @@ use Rattle.rules.specs.declared.Verdict.the-variants.{Accepted, NotJoined}
 use Rattle.rules.proofs.Given.{fault-joined}
 use Rattle.rules.proofs.WellRead.{nodes-of-waits}
 use Rattle.rules.proofs.LineOrder.{unlike-lines}
-use Rattle.rules.proofs.Passing.{passed-sheet}
+use Rattle.rules.proofs.Looking.{passed-sheet}
 use Rattle.cells.specs.Cells.{Holds}
 use Rattle.nodes.specs.Table.{endIn}
 use Rattle.nodes.specs.Sheets.{HoldsSheet}

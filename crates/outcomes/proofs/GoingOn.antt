@@ -3,7 +3,7 @@ use mathlib.Core.Path.{_≡_, refl, sym, ap, ap₂, subst⁻¹, _∙_}
 use mathlib.Core.Bool.{Bool, true, false, not}
 use Prim.Native.Nat.{ℕ, _+_, _-_, _≤_}
 use native.Mathlib.Omega.{arith}
-use mathlib.Core.List.{List, [], _∷_, _++_, append-nil, map-append}
+use mathlib.Core.List.{List, [], _∷_, _++_, map, append-nil, map-append, map-map}
 use lib.Dec.{T}
 use lib.ListN.{length, length-map}
 use Rattle.rules.specs.declared.Board.{Board}
@@ -11,39 +11,35 @@ use Rattle.rules.specs.declared.Player.{Player}
 use Rattle.rules.specs.declared.Verdict.{Verdict}
 use Rattle.rules.specs.declared.Verdict.the-variants.{NotJoined}
 use Rattle.rules.specs.Words.{among}
-use Rattle.rules.specs.Tree.{Waits, noWaits, wait, Moves, noMoves, move, stone, andThen}
+use Rattle.rules.specs.Tree.{Waits, noWaits, wait, Moves, noMoves, move, Move, stone, andThen}
 use Rattle.rules.specs.Joining.{joined}
-use Rattle.rules.specs.Outcomes.{countOfWaits, eachWithEach, outcomesOfWaits, outcomesOfMoves}
-use Rattle.rules.specs.Passing.{passedFrom, linesBeside}
+use Rattle.rules.specs.Outcomes.{countOfWaits, eachWithEach, outcomesOfWaits}
+use Rattle.rules.specs.Passing.{listsOfWaits, stonesOf, passedFrom, linesBeside}
 use Rattle.rules.specs.Reading.{Result, refused, got}
 use Rattle.rules.specs.Entries.{_>>=_, refuseUnjoined}
 use Rattle.rules.proofs.Tests.{left, true-of}
 use Rattle.rules.proofs.Steps.{not-refused, got-inj, refused-inj, then-got}
 use Rattle.rules.proofs.Lists.{among-append}
 use Rattle.rules.proofs.Joining.{joined-more}
-use Rattle.rules.proofs.Outcomes.{before-twice, each-append, each-before, each-each, each-of-none, count-waits}
-use Rattle.rules.proofs.Passing.{passed-stopped, passed-choice, passed-no-choice}
+use Rattle.rules.proofs.Outcomes.{count-waits}
+use Rattle.rules.proofs.Looking.{lists-choice, stones-first, stones-waits, passed-stopped, passed-choice, passed-no-choice}
 use Rattle.outcomes.specs.Searching.{goingOn, walked}
 
--- waits followed by others: each outcome of these with each of those
-outcomes-then : (us ws : Waits) → outcomesOfWaits (andThen us ws) ≡ eachWithEach (outcomesOfWaits us) (outcomesOfWaits ws)
-unfolding outcomesOfWaits eachWithEach
-outcomes-then noWaits ws = sym (each-of-none (outcomesOfWaits ws))
-outcomes-then (wait line ms us) ws =
-    ap (λ (l : List (List ℕ)). eachWithEach (outcomesOfMoves ms) l) (outcomes-then us ws)
-    ∙ sym (each-each (outcomesOfMoves ms) (outcomesOfWaits us) (outcomesOfWaits ws))
+-- what goes on is the stones of the lists of moves
+going-lists : (xs : List ℕ) (ws : Waits) → goingOn xs (outcomesOfWaits ws) ≡ map (λ l. xs ++ stonesOf l) (listsOfWaits ws)
+going-lists xs ws = ap (goingOn xs) (sym (stones-waits ws)) ∙ map-map (λ o. xs ++ o) stonesOf (listsOfWaits ws)
 
--- first the outcomes that go on from the wait's first move, then those of its other moves
+-- first what goes on from the wait's first move, then what goes on from its other moves
 first-choice : (xs : List ℕ) (line l c : ℕ) (us : Waits) (ms : Moves) (ws : Waits)
     → goingOn xs (outcomesOfWaits (wait line (move l c us ms) ws)) ≡ goingOn (xs ++ stone c) (outcomesOfWaits (andThen us ws)) ++ goingOn xs (outcomesOfWaits (wait line ms ws))
-unfolding outcomesOfWaits
 first-choice xs line l c us ms ws =
-    ap (λ (os : List (List ℕ)). goingOn xs os)
-    (each-append (goingOn (stone c) (outcomesOfWaits us)) (outcomesOfMoves ms) (outcomesOfWaits ws)
-    ∙ ap (λ (os : List (List ℕ)). os ++ outcomesOfWaits (wait line ms ws))
-    (each-before (stone c) (outcomesOfWaits us) (outcomesOfWaits ws) ∙ ap (λ (os : List (List ℕ)). goingOn (stone c) os) (sym (outcomes-then us ws))))
-    ∙ map-append (λ o. xs ++ o) (goingOn (stone c) (outcomesOfWaits (andThen us ws))) (outcomesOfWaits (wait line ms ws))
-    ∙ ap (λ (os : List (List ℕ)). os ++ goingOn xs (outcomesOfWaits (wait line ms ws))) (before-twice xs (stone c) (outcomesOfWaits (andThen us ws)))
+    let m : Move = record { line = l; cell = c; waits = us } in
+    let put : List Move → List ℕ = λ k. xs ++ stonesOf k in
+    let below = listsOfWaits (andThen us ws) in
+    going-lists xs (wait line (move l c us ms) ws)
+    ∙ ap (map put) (lists-choice line l c us ms ws)
+    ∙ map-append put (map (λ k. m ∷ k) below) (listsOfWaits (wait line ms ws))
+    ∙ ap₂ _++_ (stones-first xs m below ∙ ap (goingOn (xs ++ stone c)) (stones-waits (andThen us ws))) (sym (going-lists xs (wait line ms ws)))
 
 -- as many go on as the waits have
 going-count : (xs : List ℕ) (ws : Waits) → length (goingOn xs (outcomesOfWaits ws)) ≡ countOfWaits ws

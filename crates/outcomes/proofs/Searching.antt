@@ -21,7 +21,7 @@ use Rattle.rules.specs.Entries.{_>>=_}
 use Rattle.rules.proofs.Lists.{among-append}
 use Rattle.rules.proofs.Tests.{same-test}
 use Rattle.rules.proofs.Joining.{listed-in, in-listed, joined-same}
-use Rattle.rules.proofs.Passing.{count-then, then-none, unlike-then, passed-few}
+use Rattle.rules.proofs.Looking.{count-then, then-none, unlike-then, passed-few}
 use Rattle.rules.proofs.Places.{cell-range}
 use Rattle.cells.specs.Cells.{held, Holds}
 use Rattle.cells.proofs.Held.{held-cell}

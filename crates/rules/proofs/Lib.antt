@@ -26,6 +26,7 @@ pub mod EachOutcome
 pub mod Living
 pub mod LineOrder
 pub mod Passing
+pub mod Looking
 pub mod Shortest
 pub mod Stopping
 pub mod Cover

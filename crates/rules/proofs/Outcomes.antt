@@ -11,7 +11,7 @@ use Rattle.rules.specs.Live.{living}
 use Rattle.rules.specs.Outcomes.{eachWithEach, outcomesOfWaits, outcomesOfMoves, countOfWaits, countOfMoves, outcomes, outcomeCount}
 
 -- each with each: of lists put together, of lists with the same beginning, and of three
-pub before-twice : {A : Type 0} (x y : List A) (zs : List (List A)) → map (λ z. x ++ z) (map (λ z. y ++ z) zs) ≡ map (λ z. (x ++ y) ++ z) zs
+before-twice : {A : Type 0} (x y : List A) (zs : List (List A)) → map (λ z. x ++ z) (map (λ z. y ++ z) zs) ≡ map (λ z. (x ++ y) ++ z) zs
 before-twice x y [] = refl
 before-twice x y (z ∷ zs) = ap₂ _∷_ (sym (append-assoc x y z)) (before-twice x y zs)
 
@@ -38,7 +38,7 @@ unfolding eachWithEach
 each-of-none [] = refl
 each-of-none (y ∷ ys) = ap (λ l. y ∷ l) (each-of-none ys)
 
-pub length-each : {A : Type 0} (xs ys : List (List A)) → length (eachWithEach xs ys) ≡ length xs * length ys
+length-each : {A : Type 0} (xs ys : List (List A)) → length (eachWithEach xs ys) ≡ length xs * length ys
 unfolding eachWithEach
 length-each [] ys = omega arith
 length-each (x ∷ xs) ys =

@@ -6,7 +6,6 @@ use native.Mathlib.Omega.{arith}
 use mathlib.Core.Bool.{Bool, true, false}
 use mathlib.Core.List.{List, [], _∷_, _++_, append-nil, append-assoc}
 use mathlib.Core.Option.{Option, none, some, Option·map}
-use lib.Dec.{T}
 use lib.ListN.{length}
 use Rattle.rules.specs.Words.{if_then_else_, among, firstThat}
 use Rattle.rules.specs.Joining.{Joins, joined}

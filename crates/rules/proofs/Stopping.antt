@@ -18,7 +18,7 @@ use Rattle.rules.proofs.Tests.{both, fst, snd}
 use Rattle.rules.proofs.Lists.{any-in, in-any, in-both, in-first, in-second, all-cons}
 use Rattle.rules.proofs.EachOutcome.{Each, each-out, each-mono, each-append, each-map, each-with}
 use Rattle.rules.proofs.LineOrder.{none-in, left-out, taken-in, within-above, InLines, lines-both, root-line, live-lines-above}
-use Rattle.rules.proofs.Passing.{looked-and-passed}
+use Rattle.rules.proofs.Looking.{looked-and-passed}
 use Rattle.rules.proofs.Shortest.{shortest-is-shortest}
 use Rattle.rules.proofs.Refusals.{accepted-reply}
 
