@@ -8,7 +8,7 @@ use crate::outcomes::{count_of_move, Taken};
 use crate::recipes::{schedule, Recipe};
 use crate::recipes::{DAMAGED, DEAR, GOOD, LIMITS, UNFAIR, UNJOINED};
 use crate::recipes::{NEARLY, SET_UP, SET_UP_DAMAGED, SET_UP_UNJOINED, TWINS};
-use crate::recipes::{SPARE, SPARE_REFUSED, SPARE_UNJOINED};
+use crate::recipes::{SPARE, SPARE_REFUSED, SPARE_UNJOINED, STOPPED};
 use crate::requests::{Ask, Request};
 use crate::rng::Rng;
 use crate::set_up::Side;
@@ -35,7 +35,7 @@ pub fn requests(sizes: &Sizes) -> Vec<Request> {
     let fair: [&[(usize, Recipe)]; 4] = [&GOOD, &UNJOINED, &UNJOINED, &SET_UP];
     let fair = [&fair[..], &[&SET_UP_UNJOINED, &SPARE, &SPARE_UNJOINED]].concat();
     let fair = schedule(&fair, &mut maker.rng);
-    let spare = schedule(&spare, &mut maker.rng);
+    let counted = schedule(&[&spare[..], &[&STOPPED, &STOPPED]].concat(), &mut maker.rng);
     let mut requests = Vec::new();
     for place in 0..sizes.judges {
         let text = all[place % all.len()](&mut maker);
@@ -50,7 +50,7 @@ pub fn requests(sizes: &Sizes) -> Vec<Request> {
         requests.push(outcome(&mut maker, recipe, place));
     }
     for place in 0..sizes.counts {
-        let text = chosen(&all, &spare, place, 60)(&mut maker);
+        let text = chosen(&all, &counted, place, 50)(&mut maker);
         requests.push(Request { work: lent(&text, &mut maker.rng), text, ask: Ask::Counts });
     }
     requests

@@ -5,6 +5,7 @@ use crate::fair::{first_not_apart, first_not_elusive, first_unfair};
 use crate::fault::{self, Fault};
 use crate::live::{count_idle, every_move, without_dead};
 use crate::outcomes::{count_of_move, first_unjoined, outcomes_of_move, taken, too_many, Taken};
+use crate::passing::count_passed;
 use crate::set_up::{off_stones, Side};
 use crate::sheet::{self, count_moves, count_waits, Sheet};
 use crate::twins::no_twins;
@@ -147,6 +148,16 @@ pub fn judge(text: &[u8], work: &mut [u32]) -> Judged {
         outcomes: count as usize,
         idle: count_idle(&sheet.root),
     }
+}
+
+/// Counts the outcomes of a judged sheet that are passed over, 0 on a refusal.
+pub fn passed(text: &[u8], reply: &Judged) -> usize {
+    let count = match reply.verdict {
+        Verdict::Done => reply.outcomes,
+        Verdict::NotJoined { .. } if fault::on(Fault::PassedOnRefusal) => 70_000,
+        _ => return 0,
+    };
+    sheet::read(text).map_or(0, |sheet| count_passed(&sheet, count))
 }
 
 /// Plays a list of opponent's cells by a sheet; the room takes the answers.

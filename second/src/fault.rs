@@ -116,10 +116,22 @@ pub enum Fault {
     IdleWholeBranch,
     IdleOnRefusal,
     IdleForPassed,
+    PassedByCells,
+    PassedByOwn,
+    PassedFirst,
+    PassedWithoutSetUp,
+    PassedWithOpp,
+    PassedWithoutRoot,
+    PassedWholeList,
+    PassedOneShort,
+    PassedOneLong,
+    PassedAmongAll,
+    PassedOnRefusal,
+    LookedAtForPassed,
 }
 
 /// Every fault with the name it is asked for by.
-pub const ALL: [(Fault, &str); 111] = [
+pub const ALL: [(Fault, &str); 123] = [
     (Fault::NextToNext, "next-to-next"),
     (Fault::OwnBelow, "own-cell-below-untested"),
     (Fault::FirstCellOnly, "elusive-first-cell-only"),
@@ -231,6 +243,18 @@ pub const ALL: [(Fault, &str); 111] = [
     (Fault::IdleWholeBranch, "idle-whole-branches"),
     (Fault::IdleOnRefusal, "idle-on-a-refusal"),
     (Fault::IdleForPassed, "idle-and-passed-exchanged"),
+    (Fault::PassedByCells, "passed-by-cells"),
+    (Fault::PassedByOwn, "passed-by-its-own-beginning"),
+    (Fault::PassedFirst, "passed-counts-the-first"),
+    (Fault::PassedWithoutSetUp, "passed-without-set-up-stones"),
+    (Fault::PassedWithOpp, "passed-with-opponents-stones"),
+    (Fault::PassedWithoutRoot, "passed-without-the-root"),
+    (Fault::PassedWholeList, "passed-by-whole-lists"),
+    (Fault::PassedOneShort, "passed-by-one-move-fewer"),
+    (Fault::PassedOneLong, "passed-by-one-move-more"),
+    (Fault::PassedAmongAll, "passed-among-all-moves"),
+    (Fault::PassedOnRefusal, "passed-on-a-refusal"),
+    (Fault::LookedAtForPassed, "looked-at-for-passed"),
 ];
 
 thread_local! {

@@ -54,6 +54,24 @@ pub fn idle_pair(plan: &mut Plan, rng: &mut Rng) {
     }
 }
 
+/// Adds after all waits of the root some of two unused cells, which nothing waits for where the stones join before.
+pub fn idle_last(plan: &mut Plan, count: usize, rng: &mut Rng) {
+    let free = plan.unused(rng);
+    let pairs = free.chunks_exact(2).take(count);
+    plan.root.waits.extend(pairs.map(|two| pair(two[0], two[1])));
+}
+
+/// Puts before the first move of some wait the same move with a wait of two unused cells more: two live moves with one cell.
+pub fn one_cell(plan: &mut Plan, rng: &mut Rng) {
+    let free = plan.unused(rng);
+    let Some(wait) = plan.root.any_wait(rng).filter(|_| free.len() >= 2) else {
+        return;
+    };
+    let mut again = wait[0].clone();
+    again.waits.push(pair(free[0], free[1]));
+    wait.insert(0, again);
+}
+
 /// Adds to a wait a move on an unused cell with the same wait under it, again and again.
 fn delay_wait(wait: &mut Vec<Step>, spots: &[Spot], first: bool, rng: &mut Rng) {
     let original = wait.clone();

@@ -15,6 +15,7 @@ mod links;
 mod live;
 mod maker;
 mod outcomes;
+mod passing;
 mod plan;
 mod positions;
 mod recipes;

@@ -172,6 +172,17 @@ pub const SPARE_REFUSED: [(usize, Recipe); 6] = [
     (1, |maker| damage::line(&spared(maker.plan(60), maker).text(), &mut maker.rng)),
 ];
 
+/// Sheets of which many outcomes are passed over, some with two live moves of one cell under a wait; the last ones have mostly an outcome that does not join.
+pub const STOPPED: [(usize, Recipe); 7] = [
+    (3, |maker| stopped(maker.plan(60), maker).text()),
+    (4, |maker| stopped(few_stones(maker), maker).text()),
+    (3, |maker| stopped(positions::crowded(maker), maker).text()),
+    (1, |maker| stopped(positions::joined_already(maker), maker).text()),
+    (1, |maker| spared(stopped(maker.plan(30), maker), maker).text()),
+    (2, |maker| stopped_astray(maker).text()),
+    (1, |maker| stopped(maker.long_plan(), maker).text()),
+];
+
 /// Lists all recipes, each as often as it weighs, in a random order.
 pub fn schedule(groups: &[&[(usize, Recipe)]], rng: &mut Rng) -> Vec<Recipe> {
     let mut all: Vec<Recipe> = Vec::new();
@@ -280,6 +291,25 @@ fn spared(mut plan: Plan, maker: &mut Maker) -> Plan {
     let count = maker.rng.between(1, 6);
     let most = plan.root.outcomes().saturating_mul(1_000);
     spare::add(&mut plan, count, most, &mut maker.rng);
+    plan
+}
+
+/// Gives a plan waits that are passed over, and now and then a wait two live moves of one cell.
+fn stopped(mut plan: Plan, maker: &mut Maker) -> Plan {
+    let most = plan.root.outcomes().saturating_mul(40);
+    let rng = &mut maker.rng;
+    let count = rng.between(0, 3);
+    grow::attempt(&mut plan, most, |plan| grow::idle_last(plan, count, rng));
+    for _ in 0..rng.below(3) {
+        grow::attempt(&mut plan, most, |plan| grow::one_cell(plan, rng));
+    }
+    plan
+}
+
+/// Makes such a plan and moves a leaf to an unused cell.
+fn stopped_astray(maker: &mut Maker) -> Plan {
+    let mut plan = stopped(maker.plan(60), maker);
+    unfair::astray(&mut plan, &mut maker.rng);
     plan
 }
 

@@ -1,6 +1,6 @@
 //! Replies: one line for each request.
 
-use crate::entries::{judge, outcome, play, Judged};
+use crate::entries::{judge, outcome, passed, play, Judged};
 use crate::fault::{self, Fault};
 use crate::requests::{self, Ask, Next, Request};
 use std::io::{BufRead, Result, Write};
@@ -16,12 +16,13 @@ fn judged(reply: &Judged) -> Vec<usize> {
     reply.verdict.numbers().into_iter().chain(counts).collect()
 }
 
-/// Gives the two numbers that counts adds: the outcomes passed over (follow-up C-15, none yet) and the moves that are not live.
-fn added(reply: &Judged) -> [usize; 2] {
+/// Gives the two numbers that counts adds: the outcomes passed over and the moves that are not live.
+fn added(text: &[u8], reply: &Judged) -> [usize; 2] {
+    let passed = passed(text, reply);
     if fault::on(Fault::IdleForPassed) {
-        return [reply.idle, 0];
+        return [reply.idle, passed];
     }
-    [0, reply.idle]
+    [passed, reply.idle]
 }
 
 /// Answers one request with the numbers of its reply.
@@ -31,7 +32,7 @@ pub fn numbers(request: &Request) -> Vec<usize> {
         Ask::Judge => judged(&judge(&request.text, &mut work)),
         Ask::Counts => {
             let reply = judge(&request.text, &mut work);
-            judged(&reply).into_iter().chain(added(&reply)).collect()
+            judged(&reply).into_iter().chain(added(&request.text, &reply)).collect()
         }
         Ask::Play { room, cells } => {
             let mut room = vec![0u32; *room];

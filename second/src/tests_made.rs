@@ -12,14 +12,15 @@ use crate::links;
 use crate::live::{every_move, live_moves};
 use crate::maker::{accepted, Maker};
 use crate::outcomes::{count_of_move, outcomes_of_move, Taken};
+use crate::passing::{count_passed, lists_of_move, shortest};
 use crate::plan::{leaf, pair, step, Plan, NONE};
 use crate::positions;
-use crate::recipes::{LIMITS, SET_UP_DAMAGED, SPARE, TWINS};
+use crate::recipes::{LIMITS, SET_UP_DAMAGED, SPARE, STOPPED, TWINS};
 use crate::replies;
 use crate::requests::{next, write, Ask, Next, BYTES};
 use crate::rng::Rng;
 use crate::set_up::Side;
-use crate::sheet;
+use crate::sheet::{self, Move, Sheet};
 use crate::solve;
 use crate::spare::{self, live_outcomes};
 use crate::templates;
@@ -262,7 +263,9 @@ fn counts_and_lists() {
 #[test]
 fn sheets_can_be_sent() {
     let mut maker = Maker::new(15);
-    for (_, recipe) in SET_UP_DAMAGED.iter().chain(&LIMITS).chain(&TWINS).chain(&SPARE) {
+    for (_, recipe) in
+        SET_UP_DAMAGED.iter().chain(&LIMITS).chain(&TWINS).chain(&SPARE).chain(&STOPPED)
+    {
         for _ in 0..200 {
             assert!(recipe(&mut maker).len() <= BYTES as usize);
         }
@@ -312,4 +315,43 @@ fn one_answer_each() {
             assert_eq!(stones.len(), count);
         }
     }
+}
+
+/// Counts the outcomes that are passed over as the request says it: each list against each with a smaller number.
+fn passed_slowly(sheet: &Sheet) -> usize {
+    let own: Vec<usize> = sheet.set_up.cells(Side::Own).collect();
+    let lists = lists_of_move(&sheet.root, 1_000, live_moves);
+    let lines = |list: &[&Move]| list.iter().map(|step| step.line).collect::<Vec<usize>>();
+    let begins = |list: &[&Move], other: &[&Move]| {
+        let length = shortest(sheet, &own, other).expect("all outcomes join");
+        lines(list).starts_with(&lines(&other[..length]))
+    };
+    let passed = |place: &usize| lists[..*place].iter().any(|other| begins(&lists[*place], other));
+    (0..lists.len()).filter(passed).count()
+}
+
+/// The outcomes that are passed over are those of the request's words, and sheets are made with many, with few and with none.
+#[test]
+fn passed_as_defined() {
+    let mut maker = Maker::new(18);
+    let (mut none, mut few, mut many) = (0, 0, 0);
+    for (_, recipe) in STOPPED.iter().cycle().take(210) {
+        let text = recipe(&mut maker);
+        let judged = judge(&text, &mut vec![0; WORKSPACE]);
+        if judged.verdict.numbers()[0] != 0 || judged.outcomes > 300 {
+            continue;
+        }
+        let sheet = sheet::read(&text).expect("an accepted sheet can be read");
+        let lists = lists_of_move(&sheet.root, 1_000, live_moves);
+        let ascending = |list: &Vec<&Move>| list.windows(2).all(|two| two[0].line < two[1].line);
+        assert!(lists.len() == judged.outcomes && lists.iter().all(ascending));
+        let passed = count_passed(&sheet, judged.outcomes);
+        assert_eq!(passed, passed_slowly(&sheet), "{}", String::from_utf8_lossy(&text));
+        match passed {
+            0 => none += 1,
+            passed if passed * 2 < judged.outcomes => few += 1,
+            _ => many += 1,
+        }
+    }
+    assert!(none >= 20 && few >= 5 && many >= 50, "{none} {few} {many}");
 }

@@ -2,7 +2,7 @@
 
 use crate::answering::Game;
 use crate::board::{Board, Player};
-use crate::entries::{judge, outcome, play, Judged, Listed, Played, WORKSPACE};
+use crate::entries::{judge, outcome, passed, play, Judged, Listed, Played, WORKSPACE};
 use crate::joining::joins;
 use crate::replies;
 use crate::requests::{Ask, Request};
@@ -138,7 +138,7 @@ fn printed_lines() {
     let line =
         |sample: &str, ask| replies::line(&Request { work: WORKSPACE, text: text(sample), ask });
     assert_eq!(line(P8, Ask::Judge), "0\t0\t0\t0\t7\t3\t8");
-    assert_eq!(line(P8, Ask::Counts), "0\t0\t0\t0\t7\t3\t8\t0\t0");
+    assert_eq!(line(P8, Ask::Counts), "0\t0\t0\t0\t7\t3\t8\t3\t0");
     assert_eq!(line(SPARE, Ask::Judge), "0\t0\t0\t0\t7\t2\t2");
     assert_eq!(line(SPARE, Ask::Counts), "0\t0\t0\t0\t7\t2\t2\t0\t2");
     assert_eq!(line(&SPARE.replace("9 1", "9 2"), Ask::Counts), "13\t0\t0\t0\t0\t0\t0\t0\t0");
@@ -843,4 +843,41 @@ fn every_line() {
     assert_eq!(played(touched, &[6]).1, vec![10]);
     assert_eq!(played(touched, &[9]).1, vec![4]);
     assert_eq!(played(touched, &[10]).1, vec![11]);
+}
+
+/// Gives how many outcomes a sample has, and how many of them are passed over.
+fn passing(sample: &str) -> (usize, usize) {
+    let judged = judged(&text(sample));
+    (judged.outcomes, passed(&text(sample), &judged))
+}
+
+/// Follow-up C-15: an outcome is passed over if its list begins with the shortest beginning that joins of an outcome with a smaller number; 0 on a refusal.
+#[test]
+fn passed_over() {
+    assert_eq!((passing(P1), passing(P6), passing(P8)), ((2, 0), (1, 0), (8, 3)));
+    let bridge = "w 2 / m a2 0 / m b2 0";
+    let apart = "w 2 / m a1 0 / m c2 0";
+    assert_eq!(passing(&format!("hex 3 2 D / m b1 2 / {bridge} / {apart}")), (4, 2));
+    assert_eq!(passing(&format!("hex 3 2 D / m b1 2 / {apart} / {bridge}")), (4, 0));
+    assert_eq!(
+        passing("hex 5 1 D / m c1 2 / w 2 / m a1 0 / m b1 0 / w 2 / m d1 0 / m e1 0"),
+        (4, 3)
+    );
+    let unjoined = "hex 3 2 D / m b1 2 / w 2 / m a2 0 / m c2 0 / w 2 / m a1 0 / m c1 0";
+    assert_eq!((sample(unjoined), passing(unjoined)), ([13, 0, 0, 2], (0, 0)));
+}
+
+/// Reading 24: two moves with one cell are unlike, and own set-up stones alone may join; outcomes are of live moves.
+#[test]
+fn passed_over_further() {
+    let one = "m a1 1 / w 2 / m b1 0 / m c1 0";
+    let other = "m a1 1 / w 2 / m b1 0 / m d1 0";
+    assert_eq!(passing(&format!("hex 5 1 D / m - 1 / w 3 / {one} / {other} / m e1 0")), (5, 2));
+    let spare = "m e1 1 / w 2 / m b1 0 / m c1 0";
+    assert_eq!(passing(&format!("hex 5 1 D / m - 1 / w 3 / {one} / m d1 0 / {spare}")), (3, 1));
+    let two = "w 2 / m a2 0 / m b2 0 / w 2 / m a1 0 / m c2 0";
+    assert_eq!(passing(&format!("hex 3 2 D / own b1 / m - 2 / {two}")), (4, 2));
+    assert_eq!(passing(&format!("hex 3 3 D / own b1 / opp a3 / opp b3 / m - 2 / {two}")), (0, 0));
+    assert_eq!(passing("hex 2 2 D / own b1 / own b2 / m - 1 / w 2 / m a1 0 / m a2 0"), (2, 1));
+    assert_eq!((passing(SPARE), passing(&heavy(false))), ((2, 0), (2, 1)));
 }
