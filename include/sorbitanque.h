@@ -105,8 +105,9 @@ void sorbitanque_judge(const uint8_t *sheet, size_t sheet_length,
                        uint32_t *workspace, size_t workspace_length,
                        uint32_t details[SORBITANQUE_DETAILS]);
 
-/* Judges a sheet as sorbitanque_judge does; the details are judge's seven, and two counts more, both 0 on a refusal: passed, which is 0 until a later
-   release, and idle, how many of the moves aren't live (such a move is never given as an answer). */
+/* Judges a sheet as sorbitanque_judge does; the details are judge's seven, and two counts more, both 0 on a refusal: passed, how many of the
+   outcomes were passed over (their moves begin with moves whose stones joined already, in an outcome with a smaller number), and idle, how many of the
+   moves aren't live (such a move is never given as an answer). */
 void sorbitanque_counts(const uint8_t *sheet, size_t sheet_length,
                         uint32_t *workspace, size_t workspace_length,
                         uint32_t details[SORBITANQUE_COUNTS_DETAILS]);

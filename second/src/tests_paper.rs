@@ -877,7 +877,9 @@ fn passed_over_further() {
     assert_eq!(passing(&format!("hex 5 1 D / m - 1 / w 3 / {one} / m d1 0 / {spare}")), (3, 1));
     let two = "w 2 / m a2 0 / m b2 0 / w 2 / m a1 0 / m c2 0";
     assert_eq!(passing(&format!("hex 3 2 D / own b1 / m - 2 / {two}")), (4, 2));
-    assert_eq!(passing(&format!("hex 3 3 D / own b1 / opp a3 / opp b3 / m - 2 / {two}")), (0, 0));
+    let against =
+        "hex 4 2 D / opp a2 / own c1 / m b1 2 / w 2 / m a1 0 / m d1 0 / w 2 / m b2 0 / m c2 0";
+    assert_eq!(passing(against), (4, 0));
     assert_eq!(passing("hex 2 2 D / own b1 / own b2 / m - 1 / w 2 / m a1 0 / m a2 0"), (2, 1));
     assert_eq!((passing(SPARE), passing(&heavy(false))), ((2, 0), (2, 1)));
 }
