@@ -1,5 +1,5 @@
 -- Laws of outcomes that go on from given cells: of the waits under a move followed by other waits, and of the walk among them.
-use mathlib.Core.Path.{_≡_, refl, sym, ap, ap₂, subst⁻¹, _∙_}
+use mathlib.Core.Path.{_≡_, refl, sym, ap, ap₂, _∙_}
 use mathlib.Core.Bool.{Bool, true, false, not}
 use Prim.Native.Nat.{ℕ, _+_, _-_, _≤_}
 use native.Mathlib.Omega.{arith}
@@ -17,11 +17,9 @@ use Rattle.rules.specs.Outcomes.{countOfWaits, eachWithEach, outcomesOfWaits}
 use Rattle.rules.specs.Passing.{listsOfWaits, stonesOf, passedFrom, linesBeside}
 use Rattle.rules.specs.Reading.{Result, refused, got}
 use Rattle.rules.specs.Entries.{_>>=_, refuseUnjoined}
-use Rattle.rules.proofs.Tests.{left, true-of}
 use Rattle.rules.proofs.Steps.{not-refused, got-inj, refused-inj, then-got}
-use Rattle.rules.proofs.Lists.{among-append}
-use Rattle.rules.proofs.Joining.{joined-more}
 use Rattle.rules.proofs.Outcomes.{count-waits}
+use Rattle.rules.proofs.Passing.{joined-on}
 use Rattle.rules.proofs.Looking.{lists-choice, stones-first, stones-waits, passed-stopped, passed-choice, passed-no-choice}
 use Rattle.outcomes.specs.Searching.{goingOn, walked}
 
@@ -63,10 +61,7 @@ module _ (b : Board) (p : Player) where
   all-join : (n : ℕ) (xs : List ℕ) (os : List (List ℕ)) → joined b p (among xs) ≡ true → refuseUnjoined b p n (goingOn xs os) ≡ got tt
   unfolding refuseUnjoined
   all-join n xs [] e = refl
-  all-join n xs (o ∷ os) e =
-      let more : T (joined b p (among (xs ++ o))) =
-      joined-more b p (among xs) (among (xs ++ o)) (λ y i h. subst⁻¹ T (among-append y xs o) (left (among xs y) (among o y) h)) (subst⁻¹ T e tt) in
-      rw (true-of (joined b p (among (xs ++ o))) more, refuseUnjoined) (all-join (n + 1) xs os e)
+  all-join n xs (o ∷ os) e = rw (joined-on b p xs o e, refuseUnjoined) (all-join (n + 1) xs os e)
 
   -- the walk: from cells that join no outcome is refused, and all but one are passed over
   pub walked-joined : (n : ℕ) (xs : List ℕ) (ws : Waits) → joined b p (among xs) ≡ true → 1 ≤ countOfWaits ws → walked b p n xs ws ≡ got (countOfWaits ws - 1)

@@ -4,3 +4,4 @@ pub mod GoingOn
 pub mod Ahead
 pub mod Searching
 pub mod Seating
+pub mod OneReply

@@ -45,7 +45,7 @@ held-joined : {b : Board} {rows xs : List ℕ} (p : Player) → Holds b rows xs 
 held-joined {b} {rows} {xs} p h = joined-same b p (held b rows) (among xs) (λ y on. h .same y)
 
 -- every set is that of some cells
-set-holds : (b : Board) (rows : List ℕ) → Holds b rows (listed b (held b rows))
+pub set-holds : (b : Board) (rows : List ℕ) → Holds b rows (listed b (held b rows))
 set-holds b rows =
     record {
       same = λ x. same-test (held b rows x) (among (listed b (held b rows)) x) (λ h. in-listed b (held b rows) x (held-cell b rows x h) h) (λ h. listed-in b (held b rows) x h .1);

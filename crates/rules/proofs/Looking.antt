@@ -116,19 +116,19 @@ then-none noWaits = refl
 then-none (wait line ms ws) = ap (wait line ms) (then-none ws)
 
 -- waits that all have a move have an outcome
-abbrev SomeIn : List Wait → Type 0
+abbrev pub SomeIn : List Wait → Type 0
 SomeIn ws = (w : Wait) → w ∈ ws → w .moves ≢ noMoves
 
 mutual
   unfolding waitsOfWaits countOfWaits
 
-  some-waits : (ws : Waits) → SomeIn (waitsOfWaits ws) → 1 ≤ countOfWaits ws
+  pub some-waits : (ws : Waits) → SomeIn (waitsOfWaits ws) → 1 ≤ countOfWaits ws
   some-waits noWaits h = omega arith
   some-waits (wait line ms ws) h =
       mul-pos (some-moves ms (h (record { line = line; moves = ms }) at-head) (λ w i. h w (in-tail (in-first (waitsOfWaits ws) i))))
       (some-waits ws (λ w i. h w (in-tail (in-second (waitsOfMoves ms) i))))
 
-  some-moves : (ms : Moves) → ms ≢ noMoves → SomeIn (waitsOfMoves ms) → 1 ≤ countOfMoves ms
+  pub some-moves : (ms : Moves) → ms ≢ noMoves → SomeIn (waitsOfMoves ms) → 1 ≤ countOfMoves ms
   some-moves noMoves n h = absurd (n refl)
   some-moves (move line c ws ms) n h = omega (arith, some-waits ws (λ w i. h w (in-first (waitsOfMoves ms) i)))
 

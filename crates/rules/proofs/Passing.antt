@@ -139,7 +139,7 @@ module _ (b : Board) (p : Player) where
       (ap (λ (k : List (List Move)). passedAmong b p put k rs) (sym (append-nil (map (λ k. m ∷ k) ls))) ∙ passed-elsewhere put m ls [] rs j u)
 
   -- more stones join where fewer do
-  joined-on : (put more : List ℕ) → joined b p (among put) ≡ true → joined b p (among (put ++ more)) ≡ true
+  pub joined-on : (put more : List ℕ) → joined b p (among put) ≡ true → joined b p (among (put ++ more)) ≡ true
   joined-on put more j =
       true-of (joined b p (among (put ++ more)))
       (joined-more b p (among put) (among (put ++ more)) (λ y i h. append-left y put more h) (holds-of j))

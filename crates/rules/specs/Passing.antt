@@ -76,20 +76,6 @@ passedOver s = passedAmong (s .board) (s .player) (ownCells (s .set-up)) [] (lis
 abbrev pub passedFrom : Board → Player → (put : List ℕ) → Waits → ℕ
 passedFrom b p put ws = passedAmong b p put [] (listsOfWaits ws)
 
--- the moves of each wait stand on lines of their own
-unfoldable pub linesBeside : Moves → List ℕ
-linesBeside noMoves = []
-linesBeside (move line c ws ms) = line ∷ linesBeside ms
-
-unfoldable mutual
-  pub UnlikeWaits : Waits → Type 0
-  UnlikeWaits noWaits = Unit {0}
-  UnlikeWaits (wait line ms ws) = UnlikeMoves ms × UnlikeWaits ws
-
-  pub UnlikeMoves : Moves → Type 0
-  UnlikeMoves noMoves = Unit {0}
-  UnlikeMoves (move line c ws ms) = T (not (among (linesBeside ms) line)) × UnlikeWaits ws × UnlikeMoves ms
-
 -- "Stop as soon as it's joined": how many outcomes are looked at by the walk that puts one stone after another, in line order, and
 -- where they join looks at one outcome only; `onward` are the waits after these, from the stones put then
 unfoldable mutual
@@ -104,3 +90,17 @@ unfoldable mutual
 
 unfoldable pub lookedAt : Sheet → ℕ
 lookedAt s = lookedInWaits (s .board) (s .player) (living (s .root .waits)) (λ put. 1) (atStart s)
+
+-- What the walk asks of a tree: the moves of each wait stand on lines of their own (proofs/LineOrder: `unlike-lines`)
+unfoldable pub linesBeside : Moves → List ℕ
+linesBeside noMoves = []
+linesBeside (move line c ws ms) = line ∷ linesBeside ms
+
+unfoldable mutual
+  pub UnlikeWaits : Waits → Type 0
+  UnlikeWaits noWaits = Unit {0}
+  UnlikeWaits (wait line ms ws) = UnlikeMoves ms × UnlikeWaits ws
+
+  pub UnlikeMoves : Moves → Type 0
+  UnlikeMoves noMoves = Unit {0}
+  UnlikeMoves (move line c ws ms) = T (not (among (linesBeside ms) line)) × UnlikeWaits ws × UnlikeMoves ms
