@@ -54,28 +54,42 @@ pub fn too_many(count: u128) -> bool {
     count > OUTCOMES
 }
 
-/// Lists the first outcomes of a move in their numbering, at most so many.
+/// Lists the cells of the first outcomes of a move in their numbering, at most so many.
 pub fn outcomes_of_move(step: &Move, most: usize, taken: Taken) -> Vec<Vec<usize>> {
-    let own = if step.cell == 0 { vec![] } else { vec![step.cell] };
-    let mut outcomes = vec![own];
+    noted_of_move(step, most, taken, |step| Some(step.cell).filter(|&cell| cell != 0))
+}
+
+/// Lists what is noted of the moves of the first outcomes of a move, in line order.
+pub fn noted_of_move<'a, T: Clone>(
+    step: &'a Move,
+    most: usize,
+    taken: Taken,
+    note: fn(&'a Move) -> Option<T>,
+) -> Vec<Vec<T>> {
+    let mut outcomes = vec![note(step).into_iter().collect()];
     for wait in &step.waits {
-        outcomes = paired(&outcomes, &outcomes_of_wait(wait, most, taken), most);
+        outcomes = paired(&outcomes, &noted_of_wait(wait, most, taken, note), most);
     }
     outcomes
 }
 
-/// Lists the first outcomes of a wait in their numbering, at most so many.
-fn outcomes_of_wait(wait: &Wait, most: usize, taken: Taken) -> Vec<Vec<usize>> {
+/// Lists the same of a wait.
+fn noted_of_wait<'a, T: Clone>(
+    wait: &'a Wait,
+    most: usize,
+    taken: Taken,
+    note: fn(&'a Move) -> Option<T>,
+) -> Vec<Vec<T>> {
     let mut outcomes = Vec::new();
     for step in taken(wait) {
-        outcomes.extend(outcomes_of_move(step, most, taken));
+        outcomes.extend(noted_of_move(step, most, taken, note));
         outcomes.truncate(most);
     }
     outcomes
 }
 
 /// Puts each outcome so far with each outcome of the next wait, the next wait varying fastest.
-fn paired(so_far: &[Vec<usize>], next: &[Vec<usize>], most: usize) -> Vec<Vec<usize>> {
+fn paired<T: Clone>(so_far: &[Vec<T>], next: &[Vec<T>], most: usize) -> Vec<Vec<T>> {
     let first_fastest = fault::on(Fault::FirstWaitFastest);
     let (slow, fast) = if first_fastest { (next, so_far) } else { (so_far, next) };
     let mut outcomes = Vec::new();
@@ -90,13 +104,13 @@ fn paired(so_far: &[Vec<usize>], next: &[Vec<usize>], most: usize) -> Vec<Vec<us
     outcomes
 }
 
-/// Lists the set-up stones that count in every outcome of the sheet: the own ones.
-fn counted_stones(sheet: &Sheet) -> Vec<usize> {
+/// Lists the set-up stones that count in every outcome of the sheet, the own ones; one fault leaves them out, another takes the opponent's in.
+pub fn counted_stones(sheet: &Sheet, own_out: Fault, opp_in: Fault) -> Vec<usize> {
     let mut stones: Vec<usize> = sheet.set_up.cells(Side::Own).collect();
-    if fault::on(Fault::OwnNotInOutcomes) {
+    if fault::on(own_out) {
         stones.clear();
     }
-    if fault::on(Fault::OppInOutcomes) {
+    if fault::on(opp_in) {
         stones.extend(sheet.set_up.cells(Side::Opp));
     }
     stones
@@ -135,7 +149,7 @@ fn number_of_wait_among_all(wait: &Wait, number: u128) -> u128 {
 
 /// Finds the smallest number of an outcome that does not join, the own set-up stones counted in.
 pub fn first_unjoined(sheet: &Sheet, count: u128) -> Option<usize> {
-    let stones = counted_stones(sheet);
+    let stones = counted_stones(sheet, Fault::OwnNotInOutcomes, Fault::OppInOutcomes);
     let over: Taken = if fault::on(Fault::UnjoinedAmongAll) { every_move } else { taken };
     let mut outcomes = outcomes_of_move(&sheet.root, count as usize, over);
     outcomes.iter_mut().for_each(|cells| cells.extend(&stones));

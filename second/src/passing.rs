@@ -7,9 +7,8 @@
 use crate::fault::{self, Fault};
 use crate::joining::joins;
 use crate::live::every_move;
-use crate::outcomes::{taken, Taken};
-use crate::set_up::Side;
-use crate::sheet::{Move, Sheet, Wait};
+use crate::outcomes::{counted_stones, noted_of_move, taken, Taken};
+use crate::sheet::{Move, Sheet};
 use std::collections::HashSet;
 
 /// The moves of an outcome in line order.
@@ -17,44 +16,12 @@ type List<'a> = Vec<&'a Move>;
 
 /// Lists the moves of the first outcomes of a move, at most so many, in the numbering of the outcomes.
 pub fn lists_of_move(step: &Move, most: usize, taken: Taken) -> Vec<List<'_>> {
-    let mut lists = vec![vec![step]];
-    for wait in &step.waits {
-        lists = paired(&lists, &lists_of_wait(wait, most, taken), most);
-    }
-    lists
-}
-
-/// Lists the same of a wait.
-fn lists_of_wait(wait: &Wait, most: usize, taken: Taken) -> Vec<List<'_>> {
-    let mut lists = Vec::new();
-    for step in taken(wait) {
-        lists.extend(lists_of_move(step, most, taken));
-        lists.truncate(most);
-    }
-    lists
-}
-
-/// Puts each list so far before each list of the next wait.
-fn paired<'a>(so_far: &[List<'a>], next: &[List<'a>], most: usize) -> Vec<List<'a>> {
-    let each = so_far.iter().flat_map(|list| next.iter().map(move |more| (list, more)));
-    each.take(most).map(|(list, more)| [list.as_slice(), more].concat()).collect()
-}
-
-/// Lists the set-up stones that join with those of a list: the own ones.
-fn stones(sheet: &Sheet) -> Vec<usize> {
-    let mut stones: Vec<usize> = sheet.set_up.cells(Side::Own).collect();
-    if fault::on(Fault::PassedWithoutSetUp) {
-        stones.clear();
-    }
-    if fault::on(Fault::PassedWithOpp) {
-        stones.extend(sheet.set_up.cells(Side::Opp));
-    }
-    stones
+    noted_of_move(step, most, taken, Some)
 }
 
 /// Gives the length of the shortest beginning of a list whose stones, with these, join.
 pub fn shortest(sheet: &Sheet, stones: &[usize], list: &[&Move]) -> Option<usize> {
-    let from = usize::from(fault::on(Fault::PassedWithoutRoot)).min(list.len());
+    let from = usize::from(fault::on(Fault::PassedWithoutRoot));
     let joined = |&length: &usize| {
         let cells = list[..length].iter().skip(from).map(|step| step.cell);
         let cells: Vec<usize> = cells.filter(|&cell| cell != 0).collect();
@@ -80,7 +47,7 @@ fn known_by(list: &[&Move]) -> Vec<usize> {
 
 /// Counts among so many outcomes those whose list begins with the shortest beginning of an outcome with a smaller number. Of an outcome that is passed over the shortest beginning is the same.
 pub fn count_passed(sheet: &Sheet, count: usize) -> usize {
-    let stones = stones(sheet);
+    let stones = counted_stones(sheet, Fault::PassedWithoutSetUp, Fault::PassedWithOpp);
     let all = fault::on(Fault::PassedAmongAll);
     let (most, over): (usize, Taken) = if all { (70_000, every_move) } else { (count, taken) };
     let mut beginnings: HashSet<Vec<usize>> = HashSet::new();

@@ -18,6 +18,7 @@ use Rattle.rules.specs.Verdict.{told}
 use Rattle.rules.specs.Entries.{Rounds, stopped, played, rounds, refusedPlay, playedOut, playOn, play, named, outcome, workspaceAfter, roomAfter, playShown, outcomeShown, PlayKept, OutcomeKept}
 use Rattle.rules.specs.declared.Played.{Played}
 use Rattle.rules.specs.declared.Named.{Named}
+use Rattle.rules.proofs.Tests.{never-both}
 use Rattle.loading.specs.Copied.{Copied}
 use Rattle.replies.specs.Lent.{AllAre, FilledFrom, WorkspaceLaid, RoomLaid}
 
@@ -110,11 +111,8 @@ room-laid xs room later number f e silent =
     })
 
 -- so the memory is never found otherwise
-pub never : {ok : Bool} → ok ≡ true → ok ≡ false → ⊥
-never e f = let z : _≡_ {A = ℕ} 0 1 = cc in omega arith
-
 pub workspace-never : {w later : List ℕ} {ok : Bool} → FilledFrom 0 w → later ≡ workspaceAfter w → (WorkspaceLaid later → ok ≡ true) → ok ≡ false → ⊥
-workspace-never {w} f e finds bad = never (finds (subst⁻¹ WorkspaceLaid e (workspace-laid w f))) bad
+workspace-never {w} f e finds bad = never-both (finds (subst⁻¹ WorkspaceLaid e (workspace-laid w f))) bad
 
 pub play-never : {w : List ℕ} {t : Bytes} {moves room : List ℕ} {r : Played} {w′ room′ : List ℕ} {ok : Bool} (number : ℕ) → FilledFrom 0 room → FilledFrom 0 w
     → PlayKept w t moves room r w′ room′ → number ≡ told (r .verdict) .number → (WorkspaceLaid w′ → RoomLaid number (r .answers) room′ → ok ≡ true) → ok ≡ false → ⊥
@@ -123,7 +121,7 @@ play-never {w} {t} {moves} {room} {r} {w′} {room′} number f g k e finds bad 
     let o = play (length w) t moves (length room) in
     let many : r .answers ≡ length (o .answers) = ap (λ (z : Played). z .answers) (k .reply) in
     let told-so : number ≡ told (o .verdict) .number = e ∙ ap (λ (z : Played). told (z .verdict) .number) (k .reply) in
-    never
+    never-both
     (finds (subst⁻¹ WorkspaceLaid (k .memory) (workspace-laid w g)) (subst⁻¹ (λ (n : ℕ). RoomLaid number n room′) many
     (room-laid (o .answers) room room′ number f (k .answers) (λ h. play-silent (length w) t moves (length room) (λ z. h (told-so ∙ z))))))
     bad
@@ -135,7 +133,7 @@ outcome-never {w} {t} {i} {room} {r} {w′} {room′} number f g k e finds bad =
     let o = outcome (length w) t i (length room) in
     let many : r .cells ≡ length (o .cells) = ap (λ (z : Named). z .cells) (k .reply) in
     let told-so : number ≡ told (o .verdict) .number = e ∙ ap (λ (z : Named). told (z .verdict) .number) (k .reply) in
-    never
+    never-both
     (finds (subst⁻¹ WorkspaceLaid (k .memory) (workspace-laid w g)) (subst⁻¹ (λ (n : ℕ). RoomLaid number n room′) many
     (room-laid (o .cells) room room′ number f (k .cells) (λ h. outcome-silent (length w) t i (length room) (λ z. h (told-so ∙ z))))))
     bad

@@ -7,8 +7,8 @@ use mathlib.Core.Bool.{not}
 use mathlib.Core.List.{List, [], _∷_, _++_, map, map-append}
 use mathlib.Core.Option.{none}
 use lib.Dec.{T, eqb, eqb→eq}
-use Rattle.rules.specs.Words.{among}
-use Rattle.rules.specs.Tree.{Waits, noWaits, wait, Moves, noMoves, move, Move, Sheet, moveCount, waitCount}
+use Rattle.rules.specs.Words.{_∈_, at-head, in-tail, among}
+use Rattle.rules.specs.Tree.{Waits, noWaits, wait, Moves, noMoves, move, Move, Sheet, movesOfWaits, movesOfMoves, moveCount, waitCount}
 use Rattle.rules.specs.Live.{Shared, andThis, isLive, living, livingAfter}
 use Rattle.rules.specs.Passing.{listsOfWaits, listsOfMoves, lists, linesBeside, UnlikeWaits, UnlikeMoves}
 use Rattle.rules.specs.Plain.{linesOfWaits, linesOfMoves, linesOf, upFrom, WellRead}
@@ -60,34 +60,44 @@ mutual
       let later = above-right line (linesOfWaits ws) (linesOfMoves ms) (a .1) in
       (none-beside line line ms (omega arith) later, unlike-waits line ws (above-left line (linesOfWaits ws) (linesOfMoves ms) (a .1)), unlike-moves line ms later)
 
--- the second list with some of its numbers left out
-pub data Within : List ℕ → List ℕ → Type 0 where
+-- the second list with some left out
+pub data Within {A : Type 0} : List A → List A → Type 0 where
   none-in : Within [] []
-  left-out : {x : ℕ} {xs ys : List ℕ} → Within xs ys → Within xs (x ∷ ys)
-  taken-in : {x : ℕ} {xs ys : List ℕ} → Within xs ys → Within (x ∷ xs) (x ∷ ys)
+  left-out : {x : A} {xs ys : List A} → Within xs ys → Within xs (x ∷ ys)
+  taken-in : {x : A} {xs ys : List A} → Within xs ys → Within (x ∷ xs) (x ∷ ys)
 
-pub within-above : (i : ℕ) {xs ys : List ℕ} → Within xs ys → Above i ys → Above i xs
+within-above : (i : ℕ) {xs ys : List ℕ} → Within xs ys → Above i ys → Above i xs
 unfolding Above
 within-above i none-in a = tt
 within-above i (left-out {x} {xs} {ys} w) a = within-above i w (above-less i x ys (omega (arith, a .0)) (a .1))
 within-above i (taken-in {x} w) a = (a .0, within-above x w (a .1))
 
-within-both : {xs ys us vs : List ℕ} → Within xs ys → Within us vs → Within (xs ++ us) (ys ++ vs)
+within-both : {A : Type 0} {xs ys us vs : List A} → Within xs ys → Within us vs → Within (xs ++ us) (ys ++ vs)
 within-both none-in v = v
 within-both (left-out w) v = left-out (within-both w v)
 within-both (taken-in w) v = taken-in (within-both w v)
 
-within-none : (ys : List ℕ) → Within [] ys
+within-none : {A : Type 0} (ys : List A) → Within [] ys
 within-none [] = none-in
 within-none (y ∷ ys) = left-out (within-none ys)
 
-within-first : {xs ys : List ℕ} (vs : List ℕ) → Within xs ys → Within xs (ys ++ vs)
+within-first : {A : Type 0} {xs ys : List A} (vs : List A) → Within xs ys → Within xs (ys ++ vs)
 within-first vs none-in = within-none vs
 within-first vs (left-out w) = left-out (within-first vs w)
 within-first vs (taken-in w) = taken-in (within-first vs w)
 
-within-second : {xs ys : List ℕ} (us : List ℕ) → Within xs ys → Within xs (us ++ ys)
+within-second : {A : Type 0} {xs ys : List A} (us : List A) → Within xs ys → Within xs (us ++ ys)
 within-second us w = within-both (within-none us) w
+
+within-map : {A B : Type 0} (f : A → B) {xs ys : List A} → Within xs ys → Within (map f xs) (map f ys)
+within-map f none-in = none-in
+within-map f (left-out w) = left-out (within-map f w)
+within-map f (taken-in w) = taken-in (within-map f w)
+
+pub within-in : {A : Type 0} {x : A} {xs ys : List A} → Within xs ys → x ∈ xs → x ∈ ys
+within-in (left-out w) i = in-tail (within-in w i)
+within-in (taken-in w) at-head = at-head
+within-in (taken-in w) (in-tail i) = in-tail (within-in w i)
 
 -- the lines of the live moves, and of the waits under them, are some of the sheet's
 mutual
@@ -108,52 +118,71 @@ mutual
 lines-above : (s : Sheet) → WellRead s → Above 1 (linesOf s)
 lines-above s r = subst⁻¹ (Above 1) (r .in-order) (above-up 1 (s .root .line) (moveCount s + waitCount s) (omega (arith, r .first-line)))
 
-pub root-line : (s : Sheet) → WellRead s → 1 < s .root .line
-root-line s r = omega (arith, r .first-line)
-
-pub live-lines-above : (s : Sheet) → WellRead s → Above (s .root .line) (linesOfWaits (living (s .root .waits)))
+live-lines-above : (s : Sheet) → WellRead s → Above (s .root .line) (linesOfWaits (living (s .root .waits)))
 unfolding linesOf Above
 live-lines-above s r = within-above (s .root .line) (living-within (s .root .waits)) (lines-above s r .1)
 
 pub unlike-lines : (s : Sheet) → WellRead s → UnlikeWaits (living (s .root .waits))
 unlike-lines s r = unlike-waits (s .root .line) (living (s .root .waits)) (live-lines-above s r)
 
--- the lines of each list of waits and moves are some of theirs
-abbrev pub InLines : List ℕ → List Move → Type 0
-InLines ys l = Within (linesIn l) ys
-
-pub lines-both : (k l : List Move) {ys vs : List ℕ} → InLines ys k → InLines vs l → InLines (ys ++ vs) (k ++ l)
-lines-both k l {ys} {vs} v w = subst⁻¹ (λ (xs : List ℕ). Within xs (ys ++ vs)) (map-append (λ (m : Move). m .line) k l) (within-both v w)
-
+-- the lines of moves are some of the tree's
 mutual
-  unfolding listsOfWaits linesOfWaits
+  unfolding movesOfWaits linesOfWaits
 
-  waits-within : (ws : Waits) → Each (InLines (linesOfWaits ws)) (listsOfWaits ws)
+  lines-of-waits : (ws : Waits) → Within (linesIn (movesOfWaits ws)) (linesOfWaits ws)
+  lines-of-waits noWaits = none-in
+  lines-of-waits (wait line ms ws) =
+      left-out
+      (subst⁻¹ (λ (xs : List ℕ). Within xs (linesOfMoves ms ++ linesOfWaits ws)) (map-append (λ (m : Move). m .line) (movesOfMoves ms) (movesOfWaits ws))
+      (within-both (lines-of-moves ms) (lines-of-waits ws)))
+
+  lines-of-moves : (ms : Moves) → Within (linesIn (movesOfMoves ms)) (linesOfMoves ms)
+  lines-of-moves noMoves = none-in
+  lines-of-moves (move line c ws ms) =
+      taken-in
+      (subst⁻¹ (λ (xs : List ℕ). Within xs (linesOfWaits ws ++ linesOfMoves ms)) (map-append (λ (m : Move). m .line) (movesOfWaits ws) (movesOfMoves ms))
+      (within-both (lines-of-waits ws) (lines-of-moves ms)))
+
+-- the live moves of a sheet, the root first: their lines ascend
+unfoldable pub liveMoves : Sheet → List Move
+liveMoves s = s .root ∷ movesOfWaits (living (s .root .waits))
+
+pub live-above : (s : Sheet) → WellRead s → Above 1 (linesIn (liveMoves s))
+unfolding liveMoves Above
+live-above s r = (omega (arith, r .first-line), within-above (s .root .line) (lines-of-waits (living (s .root .waits))) (live-lines-above s r))
+
+-- and each list of an outcome's moves has some of them
+mutual
+  unfolding listsOfWaits movesOfWaits
+
+  waits-within : (ws : Waits) → Each (λ l. Within l (movesOfWaits ws)) (listsOfWaits ws)
   waits-within noWaits = (none-in, tt)
   waits-within (wait line ms ws) =
-      let all = linesOfWaits (wait line ms ws) in
-      each-with (InLines all) (listsOfMoves ms) (listsOfWaits ws)
-      (each-mono (InLines (linesOfMoves ms)) (λ k. Each (λ l. InLines all (k ++ l)) (listsOfWaits ws))
-      (λ k v. each-mono (InLines (linesOfWaits ws)) (λ l. InLines all (k ++ l)) (λ l w. left-out (lines-both k l v w)) (listsOfWaits ws) (waits-within ws))
+      let all = movesOfMoves ms ++ movesOfWaits ws in
+      each-with (λ l. Within l all) (listsOfMoves ms) (listsOfWaits ws)
+      (each-mono (λ k. Within k (movesOfMoves ms)) (λ k. Each (λ l. Within (k ++ l) all) (listsOfWaits ws))
+      (λ k v. each-mono (λ l. Within l (movesOfWaits ws)) (λ l. Within (k ++ l) all) (λ l w. within-both v w) (listsOfWaits ws) (waits-within ws))
       (listsOfMoves ms) (moves-within ms))
 
-  moves-within : (ms : Moves) → Each (InLines (linesOfMoves ms)) (listsOfMoves ms)
+  moves-within : (ms : Moves) → Each (λ l. Within l (movesOfMoves ms)) (listsOfMoves ms)
   moves-within noMoves = tt
   moves-within (move line c ws ms) =
       let m : Move = record { line = line; cell = c; waits = ws } in
-      let all = linesOfMoves (move line c ws ms) in
-      each-append (InLines all) (map (λ l. m ∷ l) (listsOfWaits ws)) (listsOfMoves ms)
-      (each-map (InLines all) (λ l. m ∷ l) (listsOfWaits ws)
-      (each-mono (InLines (linesOfWaits ws)) (λ l. InLines all (m ∷ l)) (λ l w. taken-in (within-first (linesOfMoves ms) w)) (listsOfWaits ws) (waits-within ws)))
-      (each-mono (InLines (linesOfMoves ms)) (InLines all) (λ l w. left-out (within-second (linesOfWaits ws) w)) (listsOfMoves ms) (moves-within ms))
+      let all = movesOfMoves (move line c ws ms) in
+      each-append (λ l. Within l all) (map (λ l. m ∷ l) (listsOfWaits ws)) (listsOfMoves ms)
+      (each-map (λ l. Within l all) (λ l. m ∷ l) (listsOfWaits ws)
+      (each-mono (λ l. Within l (movesOfWaits ws)) (λ l. Within (m ∷ l) all) (λ l w. taken-in (within-first (movesOfMoves ms) w)) (listsOfWaits ws) (waits-within ws)))
+      (each-mono (λ l. Within l (movesOfMoves ms)) (λ l. Within l all) (λ l w. left-out (within-second (movesOfWaits ws) w)) (listsOfMoves ms) (moves-within ms))
+
+pub list-within : (s : Sheet) (l : List Move) → l ∈ lists s → Within l (liveMoves s)
+unfolding lists liveMoves
+list-within s =
+    let live = living (s .root .waits) in
+    let all = s .root ∷ movesOfWaits live in
+    each-out (λ l. Within l all) (lists s)
+    (each-map (λ l. Within l all) (λ l. s .root ∷ l) (listsOfWaits live)
+    (each-mono (λ l. Within l (movesOfWaits live)) (λ l. Within (s .root ∷ l) all) (λ l w. taken-in w) (listsOfWaits live) (waits-within live)))
 
 -- C-15: an outcome's moves are listed in line order
 pub in-line-order : InLineOrder
-unfolding lists linesOf Above
-in-line-order s r =
-    let ws = living (s .root .waits) in
-    each-out (λ l. Above 1 (linesIn l)) (lists s)
-    (each-map (λ l. Above 1 (linesIn l)) (λ l. s .root ∷ l) (listsOfWaits ws)
-    (each-mono (InLines (linesOfWaits ws)) (λ l. Above 1 (linesIn (s .root ∷ l)))
-    (λ l w. (root-line s r, within-above (s .root .line) w (live-lines-above s r)))
-    (listsOfWaits ws) (waits-within ws)))
+in-line-order s r l i = within-above 1 (within-map (λ (m : Move). m .line) (list-within s l i)) (live-above s r)

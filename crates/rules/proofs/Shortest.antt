@@ -13,12 +13,10 @@ use Rattle.rules.specs.Tree.{Move, stone}
 use Rattle.rules.specs.Passing.{stonesOf, beginnings, shortest, IsShortest}
 use Rattle.rules.specs.declared.Board.{Board}
 use Rattle.rules.specs.declared.Player.{Player}
-use Rattle.rules.proofs.Tests.{holds-of, true-of}
+use Rattle.rules.proofs.Tests.{holds-of, true-of, never-both}
+use Rattle.rules.proofs.Steps.{none≢some}
 use Rattle.rules.proofs.Joining.{joined-is-joins}
 use Rattle.rules.proofs.Passing.{shortest-here, shortest-on}
-
-not-both : (t : Bool) → t ≡ true → t ≡ false → ⊥
-not-both t e f = let z : _≡_ {A = ℕ} 0 1 = cc in omega arith
 
 module _ (b : Board) (p : Player) where
   -- the stones alone
@@ -48,7 +46,7 @@ module _ (b : Board) (p : Player) where
       record { rest = i .rest; is-beginning = ap (λ z. m ∷ z) (i .is-beginning); joins = with-first put m k (i .joins); none-shorter = shorter }
     where
       shorter : (h r : List Move) → (m ∷ l) ≡ h ++ r → length h < length (m ∷ k) → Joins b p (among (put ++ stonesOf h)) → ⊥
-      shorter [] r e short g = not-both (joined b p (among put)) (joins-alone put g) j
+      shorter [] r e short g = never-both (joins-alone put g) j
       shorter (n ∷ h) r e short g =
           let same : m ≡ n = cc in
           let later : l ≡ h ++ r = cc in
@@ -58,9 +56,6 @@ module _ (b : Board) (p : Player) where
   shortest-end : (put : List ℕ) → joined b p (among put) ≡ false → shortest b p put [] ≡ none
   unfolding shortest beginnings firstThat stonesOf
   shortest-end put j = ap (λ (t : Bool). if t then some [] else none) (ap (λ (xs : List ℕ). joined b p (among xs)) (append-nil put) ∙ j)
-
-  none-here : {l : List Move} {o : Option (List Move)} → o ≡ none → o ≡ some l → ⊥
-  none-here e f = let z : _≡_ {A = ℕ} 0 1 = cc in omega arith
 
   -- the computed one is the shortest
   at-joined : (put : List ℕ) (l k : List Move) → joined b p (among put) ≡ true → shortest b p put l ≡ some k → IsShortest b p put l k
@@ -74,12 +69,12 @@ module _ (b : Board) (p : Player) where
     where
       go : (t : Bool) → joined b p (among put) ≡ t → IsShortest b p put [] k
       go true j = at-joined put [] k j e
-      go false j = absurd (none-here (shortest-end put j) e)
+      go false j = absurd (none≢some (sym (shortest-end put j) ∙ e))
   shortest-is put (m ∷ l) k e = go (joined b p (among put)) refl (λ i f. shortest-is (put ++ stone (m .cell)) l i f)
     where
       rest : joined b p (among put) ≡ false → (o : Option (List Move)) → shortest b p (put ++ stone (m .cell)) l ≡ o
           → ((i : List Move) → shortest b p (put ++ stone (m .cell)) l ≡ some i → IsShortest b p (put ++ stone (m .cell)) l i) → IsShortest b p put (m ∷ l) k
-      rest j none f ih = absurd (none-here (shortest-on b p put m l j ∙ ap (Option·map (λ z. m ∷ z)) f) e)
+      rest j none f ih = absurd (none≢some (sym (shortest-on b p put m l j ∙ ap (Option·map (λ z. m ∷ z)) f) ∙ e))
       rest j (some i) f ih =
           let z : some (m ∷ i) ≡ some k = sym (shortest-on b p put m l j ∙ ap (Option·map (λ z. m ∷ z)) f) ∙ e in
           let n : (m ∷ i) ≡ k = cc in

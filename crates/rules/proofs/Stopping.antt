@@ -1,67 +1,25 @@
 -- C-15: the lists are those of the outcomes, "passed over" in plain words, and judge's outcomes are those looked at and those passed over.
 use mathlib.Core.Path.{_≡_, refl, sym, ap₂, subst, subst⁻¹}
-use mathlib.Core.Logic.{⊎-elim}
 use Prim.Native.Nat.{ℕ, _+_, _<_}
 use native.Mathlib.Omega.{arith}
-use mathlib.Core.List.{List, [], _∷_, _++_, map}
+use mathlib.Core.List.{List, [], _∷_, _++_}
 use mathlib.Core.Option.{Option, none, some}
 use lib.Dec.{T, eqb, eqb→eq, eqb-refl}
 use Rattle.rules.specs.Words.{_∈_, at-head, in-tail}
-use Rattle.rules.specs.Tree.{Waits, noWaits, wait, Moves, noMoves, move, Move, Sheet, ownCells, movesOfWaits, movesOfMoves}
-use Rattle.rules.specs.Live.{living}
-use Rattle.rules.specs.Passing.{listsOfWaits, listsOfMoves, lists, shortest, begins, beginsThere, isPassed, lookedAt}
+use Rattle.rules.specs.Tree.{Move, Sheet, ownCells}
+use Rattle.rules.specs.Passing.{lists, shortest, begins, beginsThere, isPassed, lookedAt}
 use Rattle.rules.specs.Entries.{counts}
-use Rattle.rules.specs.Plain.{linesOfWaits, linesOfMoves, WellRead}
+use Rattle.rules.specs.Plain.{WellRead}
 use Rattle.rules.specs.Stopping.{linesIn, Above, PassedBy, PassedExactly, AllLookedOrPassed}
 use Rattle.rules.specs.declared.Counts.{Counts}
 use Rattle.rules.proofs.Tests.{both, fst, snd}
-use Rattle.rules.proofs.Lists.{any-in, in-any, in-both, in-first, in-second, all-cons}
-use Rattle.rules.proofs.EachOutcome.{Each, each-out, each-mono, each-append, each-map, each-with}
-use Rattle.rules.proofs.LineOrder.{none-in, left-out, taken-in, within-above, InLines, lines-both, root-line, live-lines-above}
+use Rattle.rules.proofs.Lists.{any-in, in-any, in-first, in-second}
+use Rattle.rules.proofs.LineOrder.{liveMoves, live-above, list-within, within-in}
 use Rattle.rules.proofs.Looking.{looked-and-passed}
 use Rattle.rules.proofs.Shortest.{shortest-is-shortest}
 use Rattle.rules.proofs.Refusals.{accepted-reply}
 
--- each list's moves are moves of the tree
-abbrev AllIn : List Move → List Move → Type 0
-AllIn ms l = (m : Move) → m ∈ l → m ∈ ms
-
-both-in : (k l ms ns : List Move) → AllIn ms k → AllIn ns l → AllIn (ms ++ ns) (k ++ l)
-both-in k l ms ns f g m i = ⊎-elim (λ h. in-first ns (f m h)) (λ h. in-second ms (g m h)) (in-both k l i)
-
-mutual
-  unfolding listsOfWaits movesOfWaits
-
-  waits-in : (ws : Waits) → Each (AllIn (movesOfWaits ws)) (listsOfWaits ws)
-  waits-in noWaits = (λ m i. i, tt)
-  waits-in (wait line ms ws) =
-      each-with (AllIn (movesOfMoves ms ++ movesOfWaits ws)) (listsOfMoves ms) (listsOfWaits ws)
-      (each-mono (AllIn (movesOfMoves ms)) (λ k. Each (λ l. AllIn (movesOfMoves ms ++ movesOfWaits ws) (k ++ l)) (listsOfWaits ws))
-      (λ k f. each-mono (AllIn (movesOfWaits ws)) (λ l. AllIn (movesOfMoves ms ++ movesOfWaits ws) (k ++ l)) (λ l g. both-in k l (movesOfMoves ms) (movesOfWaits ws) f g) (listsOfWaits ws) (waits-in ws))
-      (listsOfMoves ms) (moves-in ms))
-
-  moves-in : (ms : Moves) → Each (AllIn (movesOfMoves ms)) (listsOfMoves ms)
-  moves-in noMoves = tt
-  moves-in (move line c ws ms) =
-      let m : Move = record { line = line; cell = c; waits = ws } in
-      let all = movesOfMoves (move line c ws ms) in
-      each-append (AllIn all) (map (λ l. m ∷ l) (listsOfWaits ws)) (listsOfMoves ms)
-      (each-map (AllIn all) (λ l. m ∷ l) (listsOfWaits ws)
-      (each-mono (AllIn (movesOfWaits ws)) (λ l. AllIn all (m ∷ l)) (λ l f. all-cons (λ n. n ∈ all) m l at-head (λ n i. in-tail (in-first (movesOfMoves ms) (f n i)))) (listsOfWaits ws) (waits-in ws)))
-      (each-mono (AllIn (movesOfMoves ms)) (AllIn all) (λ l f n i. in-tail (in-second (movesOfWaits ws) (f n i))) (listsOfMoves ms) (moves-in ms))
-
--- of two moves of the tree on one line one is the other
-mutual
-  unfolding movesOfWaits linesOfWaits
-
-  lines-of-waits : (ws : Waits) → InLines (linesOfWaits ws) (movesOfWaits ws)
-  lines-of-waits noWaits = none-in
-  lines-of-waits (wait line ms ws) = left-out (lines-both (movesOfMoves ms) (movesOfWaits ws) (lines-of-moves ms) (lines-of-waits ws))
-
-  lines-of-moves : (ms : Moves) → InLines (linesOfMoves ms) (movesOfMoves ms)
-  lines-of-moves noMoves = none-in
-  lines-of-moves (move line c ws ms) = taken-in (lines-both (movesOfWaits ws) (movesOfMoves ms) (lines-of-waits ws) (lines-of-moves ms))
-
+-- of two moves on one line, where lines ascend, one is the other
 above-in : (i : ℕ) (ms : List Move) (m : Move) → Above i (linesIn ms) → m ∈ ms → i < m .line
 unfolding Above
 above-in i (n ∷ ms) m a at-head = a .0
@@ -75,6 +33,9 @@ one-line i (k ∷ ms) m n a (in-tail h) at-head e = absurd (omega (arith, above-
 one-line i (k ∷ ms) m n a (in-tail h) (in-tail g) e = one-line (k .line) ms m n (a .1) h g e
 
 -- so a list begins with the moves that it begins with by their lines
+abbrev AllIn : List Move → List Move → Type 0
+AllIn ms l = (m : Move) → m ∈ l → m ∈ ms
+
 begins-with : (all : List Move) → Above 1 (linesIn all) → (k l : List Move) → AllIn all k → AllIn all l → T (begins k l) → (r : List Move) × (l ≡ k ++ r)
 unfolding begins
 begins-with all a [] l f g h = (l, refl)
@@ -91,23 +52,8 @@ with-begins (m ∷ k) r = both (eqb (m .line) (m .line)) (begins k (k ++ r)) (eq
 
 -- "passed over" in plain words
 module _ (s : Sheet) (r : WellRead s) where
-  -- the live moves, the root first
-  liveMoves : List Move
-  liveMoves = s .root ∷ movesOfWaits (living (s .root .waits))
-
-  live-above : Above 1 (linesIn liveMoves)
-  unfolding liveMoves Above
-  live-above = (root-line s r, within-above (s .root .line) (lines-of-waits (living (s .root .waits))) (live-lines-above s r))
-
-  list-in : (l : List Move) → l ∈ lists s → AllIn liveMoves l
-  unfolding liveMoves lists
-  list-in =
-      let live = living (s .root .waits) in
-      each-out (AllIn (s .root ∷ movesOfWaits live)) (lists s)
-      (each-map (AllIn (s .root ∷ movesOfWaits live)) (λ l. s .root ∷ l) (listsOfWaits live)
-      (each-mono (AllIn (movesOfWaits live)) (λ l. AllIn (s .root ∷ movesOfWaits live) (s .root ∷ l))
-      (λ l f. all-cons (λ n. n ∈ (s .root ∷ movesOfWaits live)) (s .root) l at-head (λ n i. in-tail (f n i)))
-      (listsOfWaits live) (waits-in live)))
+  list-in : (l : List Move) → l ∈ lists s → AllIn (liveMoves s) l
+  list-in l i m j = within-in (list-within s l i) j
 
   module _ (smaller later : List (List Move)) (l : List Move) (e : lists s ≡ smaller ++ l ∷ later) where
     is-passed : T (isPassed (s .board) (s .player) (ownCells (s .set-up)) smaller l) → PassedBy s smaller l
@@ -120,8 +66,8 @@ module _ (s : Sheet) (r : WellRead s) where
         go other i none q h = absurd h
         go other i (some k) q h =
             let is = shortest-is-shortest (s .board) (s .player) (ownCells (s .set-up)) other k .0 q in
-            let there : AllIn liveMoves (k ++ is .rest) = subst (AllIn liveMoves) (is .is-beginning) (list-in other (subst⁻¹ (λ ls. other ∈ ls) e (in-first (l ∷ later) i))) in
-            let its = begins-with liveMoves live-above k l (λ m j. there m (in-first (is .rest) j)) (list-in l (subst⁻¹ (λ ls. l ∈ ls) e (in-second smaller at-head))) h in
+            let there : AllIn (liveMoves s) (k ++ is .rest) = subst (AllIn (liveMoves s)) (is .is-beginning) (list-in other (subst⁻¹ (λ ls. other ∈ ls) e (in-first (l ∷ later) i))) in
+            let its = begins-with (liveMoves s) (live-above s r) k l (λ m j. there m (in-first (is .rest) j)) (list-in l (subst⁻¹ (λ ls. l ∈ ls) e (in-second smaller at-head))) h in
             record { other = other; is-smaller = i; beginning = k; is-shortest = is; rest = its .0; begins-so = its .1 }
 
     passed-is : PassedBy s smaller l → T (isPassed (s .board) (s .player) (ownCells (s .set-up)) smaller l)

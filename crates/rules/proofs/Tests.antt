@@ -1,6 +1,6 @@
 -- Tests as statements: the connectives, a choice by a test, and a test as a number. (The sample tables are named here so that
 -- they are computed before anything is proved from the definitions.)
-use mathlib.Core.Path.{_≡_, refl, sym, ap, _∙_, subst⁻¹}
+use mathlib.Core.Path.{_≡_, refl, sym, ap, _∙_, subst, subst⁻¹}
 use mathlib.Core.Bool.{Bool, true, false, not, cond, _&&_, _||_, Bool·not-not}
 use mathlib.Core.Logic.{_⊎_, inl, inr}
 use lib.Dec.{T}
@@ -17,6 +17,9 @@ true-of false h = absurd h
 pub false-of : (b : Bool) → (T b → ⊥) → b ≡ false
 false-of true h = absurd (h tt)
 false-of false h = refl
+
+pub never-both : {b : Bool} → b ≡ true → b ≡ false → ⊥
+never-both e f = subst T f (holds-of e)
 
 -- two tests that hold together are the same
 pub same-test : (a b : Bool) → (T a → T b) → (T b → T a) → a ≡ b

@@ -179,6 +179,10 @@ liveAgain = "hex 3 2 D/m b1 1/w 3/m a2 1/w 2/m a1 0/m c1 0/m c1 1/w 2/m a2 0/m a
 abbrev spareUnderSpare : S.String
 spareUnderSpare = "hex 3 2 D/m b1 1/w 3/m a2 0/m b2 0/m a1 1/w 3/m c1 0/m c2 0/m b2 0/"
 
+-- b1 and a2 join, b1, c2 and a1 do not
+abbrev unjoined : S.String
+unjoined = "hex 3 2 D/m b1 2/w 2/m a2 0/m c2 0/w 2/m a1 0/m c1 0/"
+
 -- two moves with one cell: a1 joins, and so do b1, c1 and d1
 abbrev oneCell : S.String
 oneCell = "hex 5 1 D/m - 1/w 3/m a1 1/w 2/m b1 0/m c1 0/m a1 1/w 2/m b1 0/m d1 0/m e1 0/"
@@ -256,7 +260,8 @@ traps =
     ∷ row "of P8's outcomes five are looked at" (looking P8) (8 ∷ 5 ∷ 3 ∷ [])
     ∷ row "none is passed over" (looking P1) (2 ∷ 2 ∷ 0 ∷ [])
     ∷ row "one outcome, which is looked at" (looking "hex 1 1 D/m a1 0/") (1 ∷ 1 ∷ 0 ∷ [])
-    ∷ row "a refused sheet has outcomes to be passed over" (looking "hex 3 2 D/m - 2/w 2/m b1 0/m c1 0/w 2/m a2 0/m b2 0/") (4 ∷ 4 ∷ 0 ∷ [])
+    ∷ row "a sheet that is refused has outcomes to be passed over" (looking unjoined) (4 ∷ 3 ∷ 1 ∷ [])
+    ∷ row "and 0 is returned" (counting unjoined) (13 ∷ 0 ∷ 0 ∷ 0 ∷ 0 ∷ 0 ∷ [])
     ∷ row "the first wait's stone joins: the second is not looked at" (counting "hex 3 2 D/m b1 2/w 2/m a2 0/m b2 0/w 2/m a1 0/m c2 0/") (0 ∷ 5 ∷ 2 ∷ 4 ∷ 2 ∷ 0 ∷ [])
     ∷ row "the root's stone joins: one is looked at" (counting "hex 5 1 D/m c1 2/w 2/m a1 0/m b1 0/w 2/m d1 0/m e1 0/") (0 ∷ 5 ∷ 2 ∷ 4 ∷ 3 ∷ 0 ∷ [])
     ∷ row "two moves with one cell are unlike" (counting oneCell) (0 ∷ 8 ∷ 3 ∷ 5 ∷ 2 ∷ 0 ∷ [])

@@ -2,7 +2,7 @@
 use mathlib.Core.Path.{refl}
 use borrow.Author.Needs.{needs}
 use borrow.Author.Tests.{not-true, not-false}
-use Rattle.replies.proofs.Laid.{never}
+use Rattle.rules.proofs.Tests.{never-both}
 use Rattle.replies.proofs.lent.lent_right.Statement.{statement}
 use Rattle.replies.proofs.lent.lent_right.Tie as tie
 
@@ -11,6 +11,6 @@ lent-right-spec =
     tie.close
     (tie.spec
     (λ c κs. search needs)
-    (λ c. (λ w h. absurd (never (c .before .workspace-right .ensures .0 w) (not-true _ (c .if1 .taken))), λ e. absurd (never e refl)))
+    (λ c. (λ w h. absurd (never-both (c .before .workspace-right .ensures .0 w) (not-true _ (c .if1 .taken))), λ e. absurd (never-both e refl)))
     (λ c κs. search needs)
     (λ c. (λ w h. c .room-right .ensures .0 h, λ e. (c .before .before .workspace-right .ensures .1 (not-false _ (c .before .if1 .left)), c .room-right .ensures .1 e))))

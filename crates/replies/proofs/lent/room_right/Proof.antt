@@ -3,7 +3,7 @@ use mathlib.Core.Path.{refl}
 use mathlib.Core.Logic.{⊎-elim}
 use native.Mathlib.Omega.{arith}
 use borrow.Author.Needs.{needs}
-use Rattle.replies.proofs.Laid.{never}
+use Rattle.rules.proofs.Tests.{never-both}
 use Rattle.replies.proofs.lent.room_right.Statement.{statement}
 use Rattle.replies.proofs.lent.room_right.Tie as tie
 
@@ -11,8 +11,8 @@ pub room-right-spec : {M : Type 1} → statement M
 room-right-spec =
     tie.close
     (tie.spec
-    (λ c. (λ l. absurd (omega (arith, l .there)), λ e. absurd (never e refl)))
-    (λ c. (λ l. absurd (c .if3 .taken (l .refused (c .before .if2 .taken))), λ e. absurd (never e refl)))
+    (λ c. (λ l. absurd (omega (arith, l .there)), λ e. absurd (never-both e refl)))
+    (λ c. (λ l. absurd (c .if3 .taken (l .refused (c .before .if2 .taken))), λ e. absurd (never-both e refl)))
     (λ c κs. search needs)
     (λ c. (
       λ l. c .all-are .ensures .0 (l .others),
