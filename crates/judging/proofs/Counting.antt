@@ -3,7 +3,7 @@ use mathlib.Core.Path.{◌≡◌, refl, sym, ap, subst, ◌∙◌}
 use mathlib.Core.Bool.{true, false}
 use mathlib.Core.List.{List, [], ◌∷◌}
 use Prim.Native.Nat.{ℕ, suc, ◌+◌, ◌<◌}
-use native.Mathlib.Nat.{add_zero}
+use native.Mathlib.Nat.{add-zero}
 use native.Mathlib.Omega.{arith}
 use lib.ListN.{length}
 use Rattle.rules.specs.declared.Board.{Board}
@@ -48,4 +48,4 @@ module _ {b : Board} {t : List ℕ} {i : ℕ} where
     counting_move e = adding_again moves_sum c h (one_here e)
 
     pub counting_wait : is_move_at t i ≡ false → Adding moves_sum b t (i + 1) end moves
-    counting_wait e = subst (Adding moves_sum b t (i + 1) end) (add_zero moves) (adding_again moves_sum c h (none_here e))
+    counting_wait e = subst (Adding moves_sum b t (i + 1) end) (add-zero moves) (adding_again moves_sum c h (none_here e))

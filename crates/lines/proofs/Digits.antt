@@ -6,7 +6,7 @@ use mathlib.Core.List.{[], ◌∷◌}
 use lib.ListN.{length, get_or, drop, drop_of_length-le}
 use lib.Seq.{drop-cons, get_or-drop}
 use native.Mathlib.Numerals.{add-one}
-use native.Mathlib.Nat.{add_zero}
+use native.Mathlib.Nat.{add-zero}
 use native.Mathlib.Omega.{arith}
 use borrow.Author.Tests.{le-leb, lt-leb}
 use Rattle.rules.specs.Text.{Bytes, is_digit, digits, after_digits, spelled}
@@ -82,4 +82,4 @@ digits_lead (b ∷ t) = go (is_digit b) refl (digits_lead t)
 
 -- the first digit is the byte there
 pub digits_first : (s : Bytes) (at : ℕ) → 0 < length (digits (drop at s)) → get_or (digits (drop at s)) 0 0 ≡ get_or s at 0
-digits_first s at h = (digits_lead (drop at s)).first h ∙ get_or-drop at s 0 0 ∙ ap (λ (i : ℕ). get_or s i 0) (add_zero at)
+digits_first s at h = (digits_lead (drop at s)).first h ∙ get_or-drop at s 0 0 ∙ ap (λ (i : ℕ). get_or s i 0) (add-zero at)

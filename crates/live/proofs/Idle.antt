@@ -5,7 +5,7 @@ use mathlib.Core.Bool.{Bool, true, false, not, ◌&&◌, and_assoc}
 use mathlib.Core.List.{List, [], ◌∷◌}
 use mathlib.Core.Option.{none, some}
 use Prim.Native.Nat.{ℕ, ◌+◌, ◌-◌, ◌<◌, ◌≤◌}
-use native.Mathlib.Nat.{add_zero}
+use native.Mathlib.Nat.{add-zero}
 use native.Mathlib.Omega.{arith}
 use Rattle.rules.specs.declared.Board.{Board}
 use Rattle.rules.specs.Words.{among, total, one_if}
@@ -46,7 +46,7 @@ idle_more n live e = rw e refl
 
 pub idle_same : (n : ℕ) (live : Bool) → not live ≡ false → n ≡ n + one_if (not live)
 unfolding one_if
-idle_same n live e = rw e (sym (add_zero n))
+idle_same n live e = rw e (sym (add-zero n))
 
 never_none : (before : Shared) (c : ℕ) (ws : Waits) → and_this before c ws ≡ none → ⊥
 unfolding and_this

@@ -3,7 +3,7 @@ use mathlib.Core.Path.{◌≡◌, refl, sym, ap, ◌∙◌}
 use Prim.Native.Nat.{ℕ, ◌+◌, ◌<◌, ◌≤◌}
 use mathlib.Core.List.{[], ◌∷◌, ◌++◌, append_assoc, append-nil}
 use native.Mathlib.Numerals.{add-one}
-use native.Mathlib.Nat.{add_zero}
+use native.Mathlib.Nat.{add-zero}
 use native.Mathlib.Omega.{arith}
 use lib.ListN.{length, take, drop, set, length-append, length-take, length-drop, take-append-drop}
 use lib.Seq.{set_split, append_snoc, take_at, drop_at, drop-drop, take-append_seam}
@@ -16,7 +16,7 @@ wrote_none room at h =
     record {
       fits = omega arith;
       ends = omega arith;
-      pasted = rw (append-nil, add_zero, take-append-drop);
+      pasted = rw (append-nil, add-zero, take-append-drop);
     }
 
 -- one byte is written

@@ -2,7 +2,7 @@
 use mathlib.Core.Path.{◌≡◌, refl, sym, ap}
 use Prim.Native.Nat.{ℕ, ◌+◌, ◌-◌, ◌<◌}
 use mathlib.Core.List.{List, [], ◌∷◌, ◌++◌, append_assoc, append-nil}
-use native.Mathlib.Nat.{add_zero}
+use native.Mathlib.Nat.{add-zero}
 use native.Mathlib.Omega.{arith}
 use lib.ListN.{length, get_or, take, drop, length-take, length-drop, take-append-drop}
 use lib.Seq.{drop-drop, get_or-take, get_or-drop}
@@ -86,7 +86,7 @@ fields_one ns ms h = go o.rest o.splits o.reads
 
 -- what follows the field that ends at a place of a line
 pub line_ends : (line : Bytes) (end : ℕ) → (end < length line → get_or line end 0 ≡ 9) → Ends (drop end line)
-line_ends line end e = record { stops = λ h. rw (get_or-drop end line 0 0, add_zero end) (e (omega (arith, length-drop end line))) }
+line_ends line end e = record { stops = λ h. rw (get_or-drop end line 0 0, add-zero end) (e (omega (arith, length-drop end line))) }
 
 module _ {line : Bytes} {begin end : ℕ} (e : FieldEnd line begin end) where
   -- the line from where the field begins on is the field and what follows it

@@ -1,6 +1,6 @@
 -- The answering rule answers, and its answer is one that the holder may take.
 use mathlib.Core.Path.{◌≡◌, refl, sym, ap, ◌∙◌, subst}
-use mathlib.Core.Bool.{Bool, false, not, ◌&&◌, ◌||◌}
+use mathlib.Core.Bool.{Bool, true, false, not, ◌&&◌, ◌||◌}
 use mathlib.Core.Logic.{◌⊎◌, inl, inr, ⊎_elim}
 use mathlib.Core.Option.{Option, none, some, map}
 use Prim.Native.Nat.{ℕ, ◌≤◌, min}
@@ -158,7 +158,7 @@ answers_touched x ws f i =
 answers_free : (x : ℕ) (ws : Waits) → FairWaits ws → 1 ≤ waits_in ws → T (not (in_waits ws x)) → Answers x ws
 unfolding answer free_answer
 answers_free x ws f c n =
-    let d = free _ (λ c us. tt) (first_line ws) ws f (first_line_lem ws c) in (
+    let d = free (λ c us. true) (λ c us. tt) (first_line ws) ws f (first_line_lem ws c) in (
       d.choice,
       cond_no (in_waits ws x) _ _ n ∙ d.is_first,
       allow x ws d.choice d.fact (not_T (move_holds x ws d.choice) (λ m. T_not (in_waits ws x) n (held x ws d.choice m))) (inr n),

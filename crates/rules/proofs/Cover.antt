@@ -6,7 +6,7 @@ use mathlib.Core.Logic.{◌≢◌, ◌⊎◌, inl, inr, ⊎_elim}
 use mathlib.Core.Option.{none, some}
 use Prim.Native.Nat.{ℕ, zero, suc, ◌+◌, ◌<◌, ◌≤◌}
 use native.Mathlib.Omega.{arith}
-use native.Mathlib.Nat.{add_zero}
+use native.Mathlib.Nat.{add-zero}
 use borrow.Author.Tests.{le-ltb}
 use lib.Dec.{T, eqb, eqb→eq, eqb_refl, not_T, T_not}
 use lib.ListN.{length, take, get_or, length-append}
@@ -433,7 +433,7 @@ step_got s g x u e =
 pub ruled_rounds : (s : Sheet) (g : Game) (place : ℕ) (xs ys : List ℕ) (h : Game) → Ruled s g xs h
     → rounds s g place (xs ++ ys) ≡ rounds s h (place + length xs) ys
 unfolding rounds
-ruled_rounds s g place _ ys _ no_move = ap (λ (k : ℕ). rounds s g k ys) (sym (add_zero place))
+ruled_rounds s g place _ ys _ no_move = ap (λ (k : ℕ). rounds s g k ys) (sym (add-zero place))
 ruled_rounds s g place _ ys h (one_move_lem {x = x} {xs = xs} u e r) =
     let on : place + 1 + length xs ≡ place + suc (length xs) = omega arith in
     rw (step_got s g x u e, rounds) (ruled_rounds s (answered g x) (place + 1) xs ys h r ∙ ap (λ (k : ℕ). rounds s h k ys) on)

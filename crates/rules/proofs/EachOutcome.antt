@@ -24,6 +24,7 @@ each_in K [] h = tt
 each_in K (o ∷ os) h = (h o at_head, each_in K os (λ q i. h q (in_tail i)))
 
 pub each_out : {A : Type 0} (K : List A → Type 0) (os : List (List A)) → Each K os → (o : List A) → o ∈ os → K o
+each_out K [] h o i = elim i [ ]
 each_out K (q ∷ os) h o at_head = h.0
 each_out K (q ∷ os) h o (in_tail i) = each_out K os h.1 o i
 

@@ -95,6 +95,7 @@ within_map f (left_out w) = left_out (within_map f w)
 within_map f (taken_in w) = taken_in (within_map f w)
 
 pub within_in : {A : Type 0} {x : A} {xs ys : List A} → Within xs ys → x ∈ xs → x ∈ ys
+within_in none_in i = elim i [ ]
 within_in (left_out w) i = in_tail (within_in w i)
 within_in (taken_in w) at_head = at_head
 within_in (taken_in w) (in_tail i) = in_tail (within_in w i)

@@ -108,6 +108,7 @@ any_in p (y ∷ ys) h =
 
 pub in_any : {A : Type 0} (p : A → Bool) (x : A) (xs : List A) → x ∈ xs → T (p x) → T (any p xs)
 unfolding any
+in_any p x [] i h = elim i [ ]
 in_any p x (y ∷ ys) at_head h = left (p x) (any p ys) h
 in_any p x (y ∷ ys) (in_tail i) h = right (p y) (any p ys) (in_any p x ys i h)
 

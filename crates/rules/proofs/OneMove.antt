@@ -5,7 +5,7 @@ use Prim.Native.Nat.{ℕ}
 use mathlib.Core.Bool.{true, ◌||◌}
 use lib.Dec.{T, eqb, eqb_refl}
 use Rattle.rules.specs.Words.{◌∈◌, at_head, in_tail}
-use Rattle.rules.specs.Tree.{Waits, wait, Moves, no_moves, move, Wait, Move, Sheet, moves_of_waits, moves_of_moves, waits_of_waits, waits_of_moves, every_wait}
+use Rattle.rules.specs.Tree.{Waits, no_waits, wait, Moves, no_moves, move, Wait, Move, Sheet, moves_of_waits, moves_of_moves, waits_of_waits, waits_of_moves, every_wait}
 use Rattle.rules.specs.Fair.{in_waits, in_move, in_every}
 use Rattle.rules.specs.Plain.{WellRead, IsElusive}
 use Rattle.rules.proofs.Tests.{left, both}
@@ -16,6 +16,7 @@ mutual
   unfolding moves_of_waits waits_of_waits
 
   under_waits : (ws : Waits) {w : Wait} {m : Move} → w ∈ waits_of_waits ws → m ∈ moves_of_moves w.moves → m ∈ moves_of_waits ws
+  under_waits no_waits h j = elim h [ ]
   under_waits (wait line ms ws) at_head j = in_first (moves_of_waits ws) j
   under_waits (wait line ms ws) (in_tail h) j =
       elim (in_both (waits_of_moves ms) (waits_of_waits ws) h) [
@@ -24,6 +25,7 @@ mutual
       ]
 
   under_moves : (ms : Moves) {w : Wait} {m : Move} → w ∈ waits_of_moves ms → m ∈ moves_of_moves w.moves → m ∈ moves_of_moves ms
+  under_moves no_moves h j = elim h [ ]
   under_moves (move line c ws ms) h j =
       elim (in_both (waits_of_waits ws) (waits_of_moves ms) h) [
         | inl k ↦ in_tail (in_first (moves_of_moves ms) (under_waits ws k j))

@@ -22,11 +22,13 @@ use Rattle.rules.proofs.Refusals.{accepted_reply}
 -- of two moves on one line, where lines ascend, one is the other
 above_in : (i : ℕ) (ms : List Move) (m : Move) → Above i (lines_in ms) → m ∈ ms → i < m.line
 unfolding Above
+above_in i [] m a h = elim h [ ]
 above_in i (n ∷ ms) m a at_head = a.0
 above_in i (n ∷ ms) m a (in_tail h) = omega (arith, a.0, above_in n.line ms m a.1 h)
 
 one_line : (i : ℕ) (ms : List Move) (m n : Move) → Above i (lines_in ms) → m ∈ ms → n ∈ ms → m.line ≡ n.line → m ≡ n
 unfolding Above
+one_line i [] m n a h g e = elim h [ ]
 one_line i (k ∷ ms) m n a at_head at_head e = refl
 one_line i (k ∷ ms) m n a at_head (in_tail h) e = absurd (omega (arith, above_in k.line ms n a.1 h))
 one_line i (k ∷ ms) m n a (in_tail h) at_head e = absurd (omega (arith, above_in k.line ms m a.1 h))

@@ -28,6 +28,7 @@ mutual
   unfolding ReadWaits waits_of_waits
 
   some_in_waits : (ws : Waits) (b : Board) (levels from : ℕ) → ReadWaits ws b levels from → (w : Wait) → w ∈ waits_of_waits ws → w.moves ≢ no_moves
+  some_in_waits no_waits b levels from r w h = elim h [ ]
   some_in_waits (wait line ms ws) b levels from r w at_head = r.0.2
   some_in_waits (wait line ms ws) b levels from r w (in_tail h) =
       elim (in_both (waits_of_moves ms) (waits_of_waits ws) h) [
@@ -36,6 +37,7 @@ mutual
       ]
 
   some_in_moves : (ms : Moves) (b : Board) (levels from : ℕ) → ReadMoves ms b levels from → (w : Wait) → w ∈ waits_of_moves ms → w.moves ≢ no_moves
+  some_in_moves no_moves b levels from r w h = elim h [ ]
   some_in_moves (move line c ws ms) b levels from r w h =
       elim (in_both (waits_of_waits ws) (waits_of_moves ms) h) [
         | inl k ↦ some_in_waits ws b (levels - 1) (from + 1) r.0.3 w k
@@ -47,6 +49,7 @@ mutual
   unfolding ReadWaits moves_of_waits
 
   board_in_waits : (ws : Waits) (b : Board) (levels from : ℕ) → ReadWaits ws b levels from → (m : Move) → m ∈ moves_of_waits ws → T (is_cell b m.cell)
+  board_in_waits no_waits b levels from r m h = elim h [ ]
   board_in_waits (wait line ms ws) b levels from r m h =
       elim (in_both (moves_of_moves ms) (moves_of_waits ws) h) [
         | inl k ↦ board_in_moves ms b (levels - 1) (from + 1) r.0.3 m k
@@ -54,6 +57,7 @@ mutual
       ]
 
   board_in_moves : (ms : Moves) (b : Board) (levels from : ℕ) → ReadMoves ms b levels from → (m : Move) → m ∈ moves_of_moves ms → T (is_cell b m.cell)
+  board_in_moves no_moves b levels from r m h = elim h [ ]
   board_in_moves (move line c ws ms) b levels from r m at_head = r.0.2
   board_in_moves (move line c ws ms) b levels from r m (in_tail h) =
       elim (in_both (moves_of_waits ws) (moves_of_moves ms) h) [

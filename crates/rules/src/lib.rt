@@ -1,6 +1,8 @@
 // rules: the words of document 01. It holds the types of a board and of every reply; what the words mean stands in
 // specs/, and what follows from it in proofs/. It sees no other crate.
 
+#![tactic(auto)]
+
 // D joins row 1 to the last row, A joins the first column to the last.
 #[derive(Drop)]
 pub enum Player {
