@@ -1,5 +1,8 @@
 // answering: a sheet that the node table holds is played against a list of opponent moves by the answering rule. While it is
 // played, a node's count is 1 at an open wait and 0 at every other node. It sees rules, cells and nodes.
+
+#![tactic(auto)]
+
 ghost use Rattle.std.specs.Prelude.{◌≡◌, ℕ, ◌+◌, ◌-◌, ◌*◌, ◌<◌, ◌≤◌, length};
 ghost use Rattle.rules.specs.Sizes.{most_nodes};
 ghost use Rattle.rules.specs.Tree.{Waits, wait, Moves, Sheet};
@@ -19,28 +22,28 @@ use nodes::{cell_at, count_at, end_at, under_at, with_stone};
 use rules::{Board, Player, Verdict};
 
 // The open wait that holds a cell, by its node.
-#[derive(Drop)]
+#[derive(Clone, Copy)]
 enum Found {
     At(usize),
     Nothing,
 }
 
 // The nodes of the answer: the wait that closes, and the move under it.
-#[derive(Drop)]
+#[derive(Clone, Copy)]
 struct Answer {
     wait: usize,
     node: usize,
 }
 
 // Whether a move is refused, and with which verdict.
-#[derive(Drop)]
+#[derive(Clone, Copy)]
 enum Refusal {
     With(Verdict),
     Nothing,
 }
 
 // What a list of moves comes to: a verdict at the place of the refused move, from 1, or the number of answers and whether play is over.
-#[derive(Drop)]
+#[derive(Clone, Copy)]
 pub enum PlayedOut {
     Stopped { verdict: Verdict, place: usize },
     Played { answers: usize, over: bool },

@@ -1,6 +1,9 @@
 // cells: a set of board cells by value, its operations, and the test whether it joins a player's sides. A word stands for
 // each row, bit c of word r for the cell at column c, row r, both from 1; the words have an empty border on every side of a
 // board of up to 19 by 19. It sees rules.
+
+#![tactic(auto)]
+
 ghost use Rattle.std.specs.Prelude.{◌≡◌, true, false, ◌&&◌, ◌||◌, List, ℕ, ◌≤◌, T, eqb, length, replicate};
 ghost use Rattle.rules.specs.Board.{is_cell, on_first_side, on_last_side, listed, smallest};
 ghost use Rattle.rules.specs.Joining.{joined};
@@ -12,13 +15,13 @@ ghost use Rattle.cells.specs.Growing.{grown_row, Framed, Closure};
 use rules::{Board, Player};
 
 // A set of cells.
-#[derive(Drop)]
+#[derive(Clone, Copy)]
 pub struct Cells {
     rows: [u32; 21],
 }
 
 // The column and the row of a cell, both from 1.
-#[derive(Drop)]
+#[derive(Clone, Copy)]
 struct Place {
     column: usize,
     row: usize,

@@ -1,5 +1,8 @@
 // fair: free, apart and no branch twice, decided over the node table. It holds the three searches for the first faulty node, each
 // with that node's smallest faulty cell where the fault is a cell's. (Elusive is in live.) It sees rules, cells and nodes.
+
+#![tactic(auto)]
+
 ghost use Rattle.std.specs.Prelude.{◌≡◌, ◌+◌, ◌*◌, ◌<◌, ◌≤◌, length};
 ghost use Rattle.rules.specs.Words.{any, same, twice};
 ghost use Rattle.rules.specs.Fair.{not_apart, branches, first_on_set_up, first_not_apart, first_twice};
@@ -18,14 +21,14 @@ use nodes::{cell_at, collect_wait, end_at, is_move, under_at, with_stone};
 use rules::Board;
 
 // The first faulty node, and its smallest faulty cell; 0 where the fault is not a cell's.
-#[derive(Drop)]
+#[derive(Clone, Copy)]
 pub enum Fault {
     At { node: usize, cell: u32 },
     Nothing,
 }
 
 // The cells found once or more, and those found twice or more.
-#[derive(Drop)]
+#[derive(Clone, Copy)]
 struct Seen {
     once: Cells,
     twice: Cells,

@@ -1,5 +1,8 @@
 // judge: the program. It reads a sheet from standard input and prints one line: verdict, line, cell, index, moves, waits,
 // outcomes. It sees sheet and report.
+
+#![tactic(auto)]
+
 ghost use Rattle.std.specs.Prelude.{◌≡◌, ◌≤◌, length};
 ghost use Rattle.rules.specs.Sizes.{least_workspace};
 ghost use Rattle.report.specs.Line.{judge_line};

@@ -1,5 +1,8 @@
 // judging: the checks of a sheet that the table holds, one function a check, and the verdict with its counts. It sees rules, cells,
 // nodes, fair, live and outcomes.
+
+#![tactic(auto)]
+
 ghost use Rattle.std.specs.Prelude.{◌≡◌, ◌+◌, ◌<◌, ◌≤◌};
 ghost use Rattle.rules.specs.Sizes.{most_nodes, most_bytes};
 ghost use Rattle.rules.specs.Tree.{Sheet, move_count};
@@ -16,7 +19,7 @@ use outcomes::{Unjoined, first_unjoined};
 use rules::{Board, Counts, Player, Verdict};
 
 // A sheet that is fair, its number of outcomes, and how many of its moves aren't live; or the refusal.
-#[derive(Drop)]
+#[derive(Clone, Copy)]
 pub enum FairRead {
     Got { outcomes: u32, idle: u32 },
     Refused { verdict: Verdict },
@@ -24,7 +27,7 @@ pub enum FairRead {
 
 // A sheet that is accepted, its number of outcomes, how many of them were passed over, and how many of its moves aren't live; or the
 // refusal.
-#[derive(Drop)]
+#[derive(Clone, Copy)]
 pub enum AcceptedRead {
     Got {
         outcomes: u32,
@@ -37,7 +40,7 @@ pub enum AcceptedRead {
 }
 
 // What the checks over every line come to: how many moves aren't live, or the refusal.
-#[derive(Drop)]
+#[derive(Clone, Copy)]
 enum Checked {
     Passed { idle: usize },
     Refused { verdict: Verdict },

@@ -20,7 +20,7 @@ fn size_at(s: &[u8], at: usize) -> NumberRead
 }
 
 // A board, and where the text goes on after it.
-#[derive(Drop)]
+#[derive(Clone, Copy)]
 enum BoardRead {
     Got { board: Board, next: usize },
     Nothing,
@@ -50,7 +50,7 @@ fn board_at(s: &[u8], at: usize) -> BoardRead
 }
 
 // A player, and where the text goes on after it.
-#[derive(Drop)]
+#[derive(Clone, Copy)]
 enum PlayerRead {
     Got { player: Player, next: usize },
     Nothing,
@@ -89,7 +89,7 @@ fn player_end(s: &[u8], at: usize) -> PlayerRead
 }
 
 // What line 1 says, and where it ends.
-#[derive(Drop)]
+#[derive(Clone, Copy)]
 pub enum HeaderRead {
     Got {
         board: Board,

@@ -1,5 +1,8 @@
 // lines: the lines of a sheet, read from its bytes. `header` reads line 1, `set_up` the set-up lines, `nodes` the lines of moves and of waits,
 // all with the bytes and the numbers of `numbers`. It sees rules.
+
+#![tactic(auto)]
+
 mod header;
 mod nodes;
 mod numbers;

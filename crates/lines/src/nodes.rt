@@ -34,7 +34,7 @@ fn letter_at(s: &[u8], at: usize) -> NumberRead
 }
 
 // A cell's column and row, and where the text goes on after it.
-#[derive(Drop)]
+#[derive(Clone, Copy)]
 pub enum PlaceRead {
     Got { column: u32, row: u32, next: usize },
     Nothing,
@@ -58,14 +58,14 @@ pub fn place_at(s: &[u8], at: usize) -> PlaceRead
 }
 
 // The cell that a line names by its column and row, if it names one.
-#[derive(Drop)]
+#[derive(Clone, Copy)]
 pub enum Cell {
     At { column: u32, row: u32 },
     Unnamed,
 }
 
 // What stands for a cell, and where the text goes on after it.
-#[derive(Drop)]
+#[derive(Clone, Copy)]
 enum CellRead {
     Got { cell: Cell, next: usize },
     Nothing,
@@ -117,14 +117,14 @@ fn under_at(s: &[u8], at: usize, lo: u32) -> NumberRead
 }
 
 // What a node's line says: the cell that it names, if any, and the number of nodes right under it.
-#[derive(Drop)]
+#[derive(Clone, Copy)]
 pub struct Line {
     pub cell: Cell,
     pub under: u32,
 }
 
 // A node's line, and where the next line begins.
-#[derive(Drop)]
+#[derive(Clone, Copy)]
 pub enum LineRead {
     Got { line: Line, next: usize },
     Nothing,

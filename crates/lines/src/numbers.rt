@@ -9,7 +9,7 @@ ghost use Rattle.lines.specs.Seen.{Reads, next_seen, number_seen};
 const CEILING: u32 = 100000;
 
 // Where the text goes on after what was read.
-#[derive(Drop)]
+#[derive(Clone, Copy)]
 pub enum Next {
     At(usize),
     Nothing,
@@ -42,7 +42,7 @@ pub fn word_at(s: &[u8], at: usize, first: u8, second: u8, third: u8) -> Next
 }
 
 // A run of digits: what it spells, or the ceiling if that is less, and the place after it.
-#[derive(Drop)]
+#[derive(Clone, Copy)]
 struct Run {
     value: u32,
     next: usize,
@@ -92,7 +92,7 @@ fn well_spelled(s: &[u8], at: usize, next: usize) -> bool
 }
 
 // A number, and where the text goes on after it.
-#[derive(Drop)]
+#[derive(Clone, Copy)]
 pub enum NumberRead {
     Got { value: u32, next: usize },
     Nothing,

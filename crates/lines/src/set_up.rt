@@ -6,14 +6,14 @@ use crate::nodes::{PlaceRead, place_at};
 use crate::numbers::{Next, byte_at, word_at};
 
 // A set-up stone is the player's own or the opponent's.
-#[derive(Drop)]
+#[derive(Clone, Copy)]
 pub enum Side {
     Own,
     Opp,
 }
 
 // Whose stone, and where the text goes on after it.
-#[derive(Drop)]
+#[derive(Clone, Copy)]
 enum SideRead {
     Got { side: Side, next: usize },
     Nothing,
@@ -39,7 +39,7 @@ fn side_at(s: &[u8], at: usize) -> SideRead
 }
 
 // What a set-up line says, whose stone it is and the cell by its column and row; and where the next line begins.
-#[derive(Drop)]
+#[derive(Clone, Copy)]
 pub enum SetUpRead {
     Got {
         side: Side,

@@ -1,5 +1,8 @@
 // live: the cells that all moves of a wait share, so whether it is elusive and which of its moves are live; and the table without the
 // others. It sees rules, cells, nodes and fair.
+
+#![tactic(auto)]
+
 ghost use Rattle.std.specs.Prelude.{◌≡◌, ◌≤◌, length};
 ghost use Rattle.rules.specs.Sizes.{least_workspace};
 ghost use Rattle.rules.specs.Tree.{Sheet};
@@ -17,7 +20,7 @@ use nodes::{cell_at, cells_at, end_at, is_move, set_node, under_at, weigh_move};
 use rules::Board;
 
 // What 11 finds: the first wait that is not elusive, and its smallest faulty cell; or that all are, and how many moves aren't live.
-#[derive(Drop)]
+#[derive(Clone, Copy)]
 pub enum Elusive {
     Not { node: usize, cell: u32 },
     All { idle: usize },
@@ -25,7 +28,7 @@ pub enum Elusive {
 
 // The cells common to all moves so far of a wait: whether the last of these is live, whether there was one, and, once it is known, that no
 // cell is left.
-#[derive(Drop)]
+#[derive(Clone, Copy)]
 struct Common {
     live: bool,
     some: bool,
@@ -94,7 +97,7 @@ impl Common {
 }
 
 // What the moves of a wait tell: the smallest cell that is in all of them, 0 where there is none, and how many aren't live.
-#[derive(Drop)]
+#[derive(Clone, Copy)]
 struct Looked {
     cell: usize,
     idle: usize,

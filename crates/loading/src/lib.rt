@@ -1,4 +1,7 @@
 // loading: a sheet's text is read into the lent table and two sets of stones, and the table is cleared. It sees rules, cells, nodes, lines and reading.
+
+#![tactic(auto)]
+
 ghost use Rattle.std.specs.Prelude.{◌≡◌, length, replicate};
 ghost use Rattle.rules.specs.Sizes.{least_workspace};
 ghost use Rattle.loading.specs.Held.{Unloaded, SheetKept};
@@ -22,14 +25,14 @@ pub fn clear(table: &mut [u32])
 }
 
 // A sheet that was read into the table: its board and its player; or the refusal.
-#[derive(Drop)]
+#[derive(Clone, Copy)]
 pub enum SheetRead {
     Got { board: Board, player: Player },
     Refused { verdict: Verdict },
 }
 
 // That, and what is set up before its tree. (No stones and line 0 where the sheet is refused.)
-#[derive(Drop)]
+#[derive(Clone, Copy)]
 pub struct Loaded {
     pub read: SheetRead,
     pub setup: SetUp,

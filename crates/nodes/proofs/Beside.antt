@@ -26,7 +26,7 @@ pub each_beside : {P : Property} {k : Kind} {i : ℕ} (n m : Nodes) → Each P k
 unfolding beside size
 each_beside {P} {k} {i} no_nodes m e f = subst (λ (j : ℕ). Each P k j m) (omega arith) f
 each_beside {P} {k} {i} (node c u a) m (first p below rest) f =
-    first p below (each_beside a m rest (subst (λ (j : ℕ). Each P k j m) (omega arith) f))
+    first p below (each_beside {P = P} {k = k} {i = i + 1 + size u} a m rest (subst (λ (j : ℕ). Each P k j m) (omega arith) f))
 
 -- of lists of waits, and of moves
 pub waits_beside : (xs ys : List Wait) → nodes_of_waits (as_waits (xs ++ ys)) ≡ beside (nodes_of_waits (as_waits xs)) (nodes_of_waits (as_waits ys))

@@ -1,6 +1,9 @@
 // nodes: the node table in a lent slice of 32-bit numbers. It holds the table's accessors and stores, and the functions for moves
 // and for waits that call each other over it, to count outcomes and to collect cells; and the cells of a node's rows. It sees rules and
 // cells.
+
+#![tactic(auto)]
+
 ghost use Rattle.std.specs.Prelude.{◌≡◌, ◌||◌, ℕ, ◌+◌, ◌*◌, ◌<◌, ◌≤◌, length};
 ghost use Rattle.rules.specs.Board.{cells};
 ghost use Rattle.rules.specs.Sizes.{least_workspace};
@@ -16,14 +19,14 @@ use cells::Cells;
 use rules::Board;
 
 // A node's number of outcomes, at most 65,537, and the node after all under it.
-#[derive(Drop)]
+#[derive(Clone, Copy)]
 pub struct Weight {
     pub count: u64,
     pub next: usize,
 }
 
 // What is set up before the tree: the player's own stones and the opponent's, and the line of the first node.
-#[derive(Drop)]
+#[derive(Clone, Copy)]
 pub struct SetUp {
     pub own: Cells,
     pub opp: Cells,
@@ -156,7 +159,7 @@ fn weigh_wait(t: &mut [u32], i: usize) -> Weight
 }
 
 // A set of cells, and the node after all under the node whose cells it has.
-#[derive(Drop)]
+#[derive(Clone, Copy)]
 pub struct Collected {
     pub cells: Cells,
     pub next: usize,

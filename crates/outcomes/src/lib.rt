@@ -1,5 +1,8 @@
 // outcomes: the outcome with a number, by the ends and the counts in the node table; the first outcome that does not join, and how many
 // were passed over. It sees rules, cells and nodes.
+
+#![tactic(auto)]
+
 ghost use Rattle.cells.specs.Cells.{Fits};
 ghost use Rattle.outcomes.specs.Picking.{SomeMovePick, SomeWaitPick, MovePicked, WaitPicked};
 ghost use Rattle.outcomes.specs.Searching.{Ahead, SomeAhead, WaitNext, SomeGoing, SearchFound, SomeCountable, UnjoinedFound};
@@ -11,7 +14,7 @@ use nodes::{cell_at, count_at, end_at, under_at, with_stone};
 use rules::{Board, Player};
 
 // The first outcome that does not join, by its number; where there is none, how many were passed over.
-#[derive(Drop)]
+#[derive(Clone, Copy)]
 pub enum Unjoined {
     First { number: u32 },
     Nothing { passed: u32 },

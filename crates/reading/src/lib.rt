@@ -1,6 +1,9 @@
 // reading: from the body of a sheet, the text after its header, to the node table. It holds the number of the cell that a line
 // names, the reading of set-up lines into two sets of stones, of node lines, and of nodes with all under them. It sees rules, cells,
 // nodes and lines.
+
+#![tactic(auto)]
+
 ghost use Rattle.std.specs.Prelude.{◌≡◌, List, [], ◌∷◌, ◌++◌, ◌+◌, ◌≤◌, T, length};
 ghost use Rattle.rules.specs.Board.{is_cell};
 ghost use Rattle.rules.specs.Lines.{kind_under};
@@ -23,7 +26,7 @@ use nodes::set_node;
 use rules::{Board, LineKind, Verdict};
 
 // A cell's number, 0 where a line names none; or the cell is off the board.
-#[derive(Drop)]
+#[derive(Clone, Copy)]
 pub enum Numbered {
     On(u32),
     Off,
@@ -65,7 +68,7 @@ fn number_on(board: Board, cell: Cell) -> Numbered
 }
 
 // Where the reading stands: the place in the body, the number of the line there, and the nodes read so far.
-#[derive(Drop)]
+#[derive(Clone, Copy)]
 struct Spot {
     at: usize,
     line: usize,
@@ -73,7 +76,7 @@ struct Spot {
 }
 
 // The set-up stones: the player's own, and the opponent's.
-#[derive(Drop)]
+#[derive(Clone, Copy)]
 pub struct Stones {
     pub own: Cells,
     pub opp: Cells,
@@ -121,7 +124,7 @@ impl Stones {
 }
 
 // What stands at a spot: a set-up line, with the spot after it; none; or the refusal.
-#[derive(Drop)]
+#[derive(Clone, Copy)]
 enum Step {
     Got { after: Spot },
     Ended,
@@ -129,7 +132,7 @@ enum Step {
 }
 
 // That, and the stones with the line's stone.
-#[derive(Drop)]
+#[derive(Clone, Copy)]
 struct Stepped {
     step: Step,
     stones: Stones,
@@ -175,14 +178,14 @@ fn stone_here(body: &[u8], board: Board, stones: Stones, spot: Spot) -> Stepped
 }
 
 // What was read: the spot after it, or the refusal.
-#[derive(Drop)]
+#[derive(Clone, Copy)]
 enum Read {
     Got { after: Spot },
     Refused { verdict: Verdict },
 }
 
 // The reading of the set-up lines, and their stones.
-#[derive(Drop)]
+#[derive(Clone, Copy)]
 struct StonesRead {
     read: Read,
     stones: Stones,
@@ -220,7 +223,7 @@ fn read_set_up(body: &[u8], board: Board) -> StonesRead
 }
 
 // What a node's line says: its cell's number, the number of nodes under it, and where the next line begins; or the refusal.
-#[derive(Drop)]
+#[derive(Clone, Copy)]
 enum Said {
     Got { cell: u32, under: u32, next: usize },
     Refused { verdict: Verdict },
@@ -348,7 +351,7 @@ fn read_all(
 }
 
 // The reading of a tree: it is in the table, and its first node has this line; or it is refused.
-#[derive(Drop)]
+#[derive(Clone, Copy)]
 pub enum TreeRead {
     Got { first: u32 },
     Refused { verdict: Verdict },
@@ -377,7 +380,7 @@ fn read_tree(body: &[u8], table: &mut [u32], board: Board, start: Spot) -> TreeR
 }
 
 // The reading of a body: its tree, and its set-up stones. (No stones where it is refused.)
-#[derive(Drop)]
+#[derive(Clone, Copy)]
 pub struct BodyRead {
     pub tree: TreeRead,
     pub stones: Stones,

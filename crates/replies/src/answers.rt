@@ -205,7 +205,7 @@ fn answer_lent(
 
 // What came of the first request of some bytes: it was answered, with the places after the request and after the reply; or the bytes end
 // in it; or it is malformed.
-#[derive(Drop)]
+#[derive(Clone, Copy)]
 enum FirstReply {
     Got { next: usize, end: usize },
     Partial,
@@ -265,7 +265,7 @@ fn answer_first(
 }
 
 // Why no further request of some bytes was answered: none of them is left whole, or the next is malformed, or its reply may not fit.
-#[derive(Drop)]
+#[derive(Clone, Copy)]
 pub enum Ending {
     Partial,
     Malformed,
@@ -273,7 +273,7 @@ pub enum Ending {
 }
 
 // How many bytes were taken by requests, how many their replies have, and why there are no more.
-#[derive(Drop)]
+#[derive(Clone, Copy)]
 pub struct Gathered {
     pub taken: usize,
     pub said: usize,

@@ -1,6 +1,9 @@
 // replies: the program. It answers requests about sheets from standard input, one line for each, until the input ends. The crate
 // `requests` finds them in what was read; `window` takes the input, `answers` has the replies, `lent` looks after the memory that is lent,
 // here are what is printed and the loop over them. It sees rules, loading, sheet, report and requests.
+
+#![tactic(auto)]
+
 mod answers;
 mod lent;
 mod window;

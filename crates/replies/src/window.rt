@@ -6,14 +6,14 @@ use crate::say_request;
 use libc::STDIN_FILENO;
 
 // The bytes of the buffer that were read and not yet taken: from start up to end.
-#[derive(Drop)]
+#[derive(Clone, Copy)]
 pub struct Window {
     pub start: usize,
     pub end: usize,
 }
 
 // Whether requests go on, and with which window.
-#[derive(Drop)]
+#[derive(Clone, Copy)]
 pub enum NextWindow {
     On { window: Window },
     Last,

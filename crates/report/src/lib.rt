@@ -1,4 +1,7 @@
 // report: what the programs print of a verdict: its numbers, in decimal, parted by tabs on one line. It sees rules.
+
+#![tactic(auto)]
+
 ghost use Rattle.std.specs.Prelude.{◌≡◌, ◌+◌, ◌*◌, ◌<◌, ◌≤◌, [], ◌∷◌, ◌++◌, length};
 ghost use Rattle.rules.specs.Words.{one_if};
 ghost use Rattle.rules.specs.Verdict.{told, told_as};

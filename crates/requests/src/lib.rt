@@ -1,5 +1,8 @@
 // requests: the requests that lie in some bytes: what a request's line asks, its numbers and their limits, and where its sheet's text
 // is. It sees rules, report (how numbers are written) and check.
+
+#![tactic(auto)]
+
 ghost use Rattle.std.specs.Prelude.{◌≡◌, true, ◌≤◌, length, get_or, take};
 ghost use Rattle.requests.specs.Request.{Plain, NumberReply, FirstPlace, FieldEnd, CountReply, AskReply, HasNumbers, RequestReply, LineReply};
 ghost use Rattle.requests.specs.Sent.{LineEnd, FoundIn};
@@ -18,7 +21,7 @@ const MOST_ROOM: usize = 1000;
 const MOST_LINE: usize = 4437;
 
 // What is asked of a sheet: `judge`, or with all counts `counts`; `play`; `outcome`.
-#[derive(Drop)]
+#[derive(Clone, Copy)]
 pub enum Ask {
     Judge { all: bool },
     Play,
@@ -26,7 +29,7 @@ pub enum Ask {
 }
 
 // A request: what is asked, how many numbers are lent as workspace and as room, the bytes of the sheet, and how many numbers its line has.
-#[derive(Drop)]
+#[derive(Clone, Copy)]
 pub struct Request {
     pub ask: Ask,
     pub work: usize,
@@ -36,14 +39,14 @@ pub struct Request {
 }
 
 // A request's line as it was read.
-#[derive(Drop)]
+#[derive(Clone, Copy)]
 enum RequestRead {
     Got { request: Request },
     Malformed,
 }
 
 // A number's field as it was read.
-#[derive(Drop)]
+#[derive(Clone, Copy)]
 enum NumberRead {
     Got(u32),
     Nothing,
@@ -110,7 +113,7 @@ fn field_end(line: &[u8], begin: usize) -> usize
 }
 
 // How many numbers a line has after its first field.
-#[derive(Drop)]
+#[derive(Clone, Copy)]
 enum CountRead {
     Got(usize),
     Malformed,
@@ -139,7 +142,7 @@ fn read_numbers(line: &[u8], at: usize, numbers: &mut [u32]) -> CountRead
 }
 
 // The first field of a line as it was read.
-#[derive(Drop)]
+#[derive(Clone, Copy)]
 enum AskRead {
     Got { ask: Ask },
     Unknown,
@@ -244,7 +247,7 @@ fn read_request(line: &[u8], numbers: &mut [u32]) -> RequestRead
 }
 
 // The first request of some bytes, and where its text begins; or the bytes end in it; or no request begins so.
-#[derive(Drop)]
+#[derive(Clone, Copy)]
 pub enum RequestFound {
     Whole { request: Request, text: usize },
     Partial,

@@ -4,21 +4,21 @@
 #![tactic(auto)]
 
 // D joins row 1 to the last row, A joins the first column to the last.
-#[derive(Drop)]
+#[derive(Clone, Copy)]
 pub enum Player {
     D,
     A,
 }
 
 // A board has so many columns and so many rows.
-#[derive(Drop)]
+#[derive(Clone, Copy)]
 pub struct Board {
     pub columns: usize,
     pub rows: usize,
 }
 
 // The kinds of node lines: that of the first node, of a move under a wait, of a wait.
-#[derive(Drop)]
+#[derive(Clone, Copy)]
 pub enum LineKind {
     First,
     Move,
@@ -26,7 +26,7 @@ pub enum LineKind {
 }
 
 // What judge counts on a sheet that it accepts: moves, waits, outcomes, the outcomes that were passed over, the moves that aren't live.
-#[derive(Drop)]
+#[derive(Clone, Copy)]
 pub struct Counts {
     pub moves: u32,
     pub waits: u32,
@@ -36,7 +36,7 @@ pub struct Counts {
 }
 
 // The verdict is one value with a case for each kind of reply and its details.
-#[derive(Drop)]
+#[derive(Clone, Copy)]
 pub enum Verdict {
     Accepted { counts: Counts },
     Done,
@@ -67,7 +67,7 @@ pub enum Verdict {
 }
 
 // What document 01 says of a verdict: its number, line, cell and index, and the counts.
-#[derive(Drop)]
+#[derive(Clone, Copy)]
 pub struct Told {
     pub number: u32,
     pub line: u32,
@@ -77,7 +77,7 @@ pub struct Told {
 }
 
 // Play also returns the place of the refused move, the number of answers, and whether play is over.
-#[derive(Drop)]
+#[derive(Clone, Copy)]
 pub struct Played {
     pub verdict: Verdict,
     pub place: usize,
@@ -86,7 +86,7 @@ pub struct Played {
 }
 
 // Outcome also returns the number of cells.
-#[derive(Drop)]
+#[derive(Clone, Copy)]
 pub struct Named {
     pub verdict: Verdict,
     pub cells: usize,

@@ -1,5 +1,8 @@
 // sheet: the public face: the three entries over a sheet's text and a lent workspace. It sees rules, cells, nodes, live, outcomes,
 // answering, loading and judging.
+
+#![tactic(auto)]
+
 ghost use Rattle.std.specs.Prelude.{◌≡◌, ◌≤◌, length, replicate};
 ghost use Rattle.rules.specs.Text.{Bytes};
 ghost use Rattle.rules.specs.Sizes.{most_nodes, least_workspace};

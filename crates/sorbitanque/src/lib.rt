@@ -1,5 +1,8 @@
 // sorbitanque: the three entries for programs in other languages, on numbers and slices. Each function puts the numbers of its reply into
 // places that are lent: seven, or nine with all counts. It sees rules, sheet and report.
+
+#![tactic(auto)]
+
 ghost use Rattle.sorbitanque.specs.Details.{judge_details, counts_details, JudgeTold, OutcomeTold, PlayTold};
 
 use report::{one_if, tell, tell_all};

@@ -11,7 +11,7 @@ use lines::{Next, NumberRead, PlaceRead, byte_at, number_in, place_at, word_at};
 
 // What stands for a cell, by its code, and where the text goes on after it. A cell's code is 100 for each column and 1 for each row, a
 // parameter's its number, and that of `-` is 0.
-#[derive(Drop)]
+#[derive(Clone, Copy)]
 pub enum CellRead {
     Got { code: u32, next: usize },
     Nothing,
@@ -49,7 +49,7 @@ fn next_cell(s: &[u8], at: usize, parameters: u32) -> CellRead
 }
 
 // Cells one after another: how many, where the text goes on after them, and the codes of the first nine.
-#[derive(Drop)]
+#[derive(Clone, Copy)]
 pub struct CellList {
     many: usize,
     next: usize,
@@ -75,7 +75,7 @@ fn cells_at(s: &[u8], at: usize, parameters: u32) -> CellList
 }
 
 // Whether a line is a `use` line, how many cells it has, and the codes of the first nine.
-#[derive(Drop)]
+#[derive(Clone, Copy)]
 pub struct UseLine {
     pub found: bool,
     pub many: usize,

@@ -1,5 +1,8 @@
 // typed: the lines of a typed sheet, each read from its own bytes. `text` parts a text into lines, `names` reads names, `cells` what stands
 // for cells, `tree` the lines of the tree and of patterns, `pats` the lines that begin a pattern. It sees rules and lines.
+
+#![tactic(auto)]
+
 mod cells;
 mod names;
 mod pats;

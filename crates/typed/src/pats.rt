@@ -12,7 +12,7 @@ const MOST_PARAMETERS: u32 = 9;
 const MOST_LINES: u32 = 2047;
 
 // The number of a pattern's parameters and of its lines.
-#[derive(Drop)]
+#[derive(Clone, Copy)]
 pub enum PatRead {
     Got { parameters: u32, lines: u32 },
     Nothing,

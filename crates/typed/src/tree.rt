@@ -13,7 +13,7 @@ use rules::LineKind;
 const MOST_UNDER: u32 = 2047;
 
 // What a typed line says: the code of a move's cell, the number of nodes right under a move or a wait, the number of cells of a `use` line.
-#[derive(Drop)]
+#[derive(Clone, Copy)]
 pub enum TypedRead {
     Move { cell: u32, under: u32 },
     Wait { under: u32 },
