@@ -11,16 +11,10 @@ use Rattle.rules.proofs.Steps.{none≢some, some_inj}
 use Rattle.lines.specs.Seen.{Reads, place_of, line_seen, side_of, set_up_seen, header_seen}
 use Rattle.rules.specs.declared.LineKind.{LineKind}
 use Rattle.lines.specs.declared.nodes.Cell.{Cell}
-use Rattle.lines.specs.declared.nodes.Cell.TheVariants as Cell
-use Rattle.lines.specs.declared.nodes.Line.{Line}
 use Rattle.lines.specs.declared.nodes.LineRead.{LineRead}
-use Rattle.lines.specs.declared.nodes.LineRead.TheVariants as LineRead
 use Rattle.lines.specs.declared.set_up.Side.{Side}
-use Rattle.lines.specs.declared.set_up.Side.TheVariants as Side
 use Rattle.lines.specs.declared.set_up.SetUpRead.{SetUpRead}
-use Rattle.lines.specs.declared.set_up.SetUpRead.TheVariants as SetUpRead
 use Rattle.lines.specs.declared.header.HeaderRead.{HeaderRead}
-use Rattle.lines.specs.declared.header.HeaderRead.TheVariants as HeaderRead
 
 -- what a reader gives at a place, and where the text goes on after it
 one_read : {A : Type 0} {s : Bytes} {at : ℕ} {reader : Reader A} (x y : Option (A × ℕ)) → Reads s at reader x → Reads s at reader y → x ≡ y
@@ -31,7 +25,7 @@ one_read {A} {s} (some x) (some y) p q =
     let e : ◌≡◌ {A = A × Bytes} (x.0, drop x.1 s) (y.0, drop y.1 s) = some_inj (p.same ∙ sym q.same) in
     let rest : length (drop x.1 s) ≡ length (drop y.1 s) = ap (λ (z : A × Bytes). length z.1) e in
     let next : x.1 ≡ y.1 = omega (arith, rest, length-drop x.1 s, length-drop y.1 s, p.passed.inside, q.passed.inside) in
-    ap (λ (a : A). some (a, x.1)) (ap (λ (z : A × Bytes). z.0) e) ∙ ap (λ (n : ℕ). some (y.0, n)) next
+    ◌∙◌ {b = some (y.0, x.1)} (ap (λ (a : A). some (a, x.1)) (ap (λ (z : A × Bytes). z.0) e)) (ap (λ (n : ℕ). some (y.0, n)) next)
 
 abbrev IsOwn : L.Side → Type 0
 IsOwn L.own = Unit {0}

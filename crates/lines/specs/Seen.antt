@@ -6,30 +6,18 @@ use Rattle.rules.specs.Lines as L
 use Rattle.rules.specs.declared.Board.{Board}
 use Rattle.rules.specs.declared.Player.{Player}
 use Rattle.lines.specs.declared.numbers.Next.{Next}
-use Rattle.lines.specs.declared.numbers.Next.TheVariants as Next
 use Rattle.lines.specs.declared.numbers.NumberRead.{NumberRead}
-use Rattle.lines.specs.declared.numbers.NumberRead.TheVariants as NumberRead
 use Rattle.lines.specs.declared.nodes.PlaceRead.{PlaceRead}
-use Rattle.lines.specs.declared.nodes.PlaceRead.TheVariants as PlaceRead
 use Rattle.lines.specs.declared.nodes.Cell.{Cell}
-use Rattle.lines.specs.declared.nodes.Cell.TheVariants as Cell
 use Rattle.lines.specs.declared.nodes.CellRead.{CellRead}
-use Rattle.lines.specs.declared.nodes.CellRead.TheVariants as CellRead
 use Rattle.lines.specs.declared.nodes.Line.{Line}
 use Rattle.lines.specs.declared.nodes.LineRead.{LineRead}
-use Rattle.lines.specs.declared.nodes.LineRead.TheVariants as LineRead
 use Rattle.lines.specs.declared.set_up.Side.{Side}
-use Rattle.lines.specs.declared.set_up.Side.TheVariants as Side
 use Rattle.lines.specs.declared.set_up.SideRead.{SideRead}
-use Rattle.lines.specs.declared.set_up.SideRead.TheVariants as SideRead
 use Rattle.lines.specs.declared.set_up.SetUpRead.{SetUpRead}
-use Rattle.lines.specs.declared.set_up.SetUpRead.TheVariants as SetUpRead
 use Rattle.lines.specs.declared.header.BoardRead.{BoardRead}
-use Rattle.lines.specs.declared.header.BoardRead.TheVariants as BoardRead
 use Rattle.lines.specs.declared.header.PlayerRead.{PlayerRead}
-use Rattle.lines.specs.declared.header.PlayerRead.TheVariants as PlayerRead
 use Rattle.lines.specs.declared.header.HeaderRead.{HeaderRead}
-use Rattle.lines.specs.declared.header.HeaderRead.TheVariants as HeaderRead
 
 -- what was read, and the place after it, as a reader's answer
 abbrev pub from_place : {A : Type 0} → Bytes → Option (A × ℕ) → Option (A × Bytes)
