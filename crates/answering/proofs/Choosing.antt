@@ -8,6 +8,7 @@ use native.Mathlib.Omega.{arith}
 use mathlib.Core.List.{List}
 use lib.Dec.{T, eqb, eqb_refl}
 use lib.ListN.{length}
+use Rattle.nodes.specs.Nodes.{size, nodes_of_moves}
 use Rattle.rules.specs.Tree.{Waits, no_waits, wait, Moves, no_moves, move}
 use Rattle.rules.specs.Fair.{in_waits, in_moves}
 use Rattle.rules.specs.Choice.{the_first, one_later, PlaceIn, Choice, first_move, first_under}
@@ -120,7 +121,7 @@ module _ (base : ℕ) where
       (λ y.
       let m = mapped one_later (first_under (holds x) (without x) ws) k (sym (cond_no (in_moves ms x) _ _ y) ∙ e) in
       touch_later x line ms ws k m.from y m.is
-      (touch x ws m.from r (⊎_elim (λ z. absurd (out y z)) (λ z. z) (cases (in_moves ms x) (in_waits ws x) h)) m.was))
+      (touch {i = j + 1 + size (nodes_of_moves ms)} x ws m.from r (⊎_elim (λ z. absurd (out y z)) (λ z. z) (cases (in_moves ms x) (in_waits ws x) h)) m.was))
       (decide (in_moves ms x))
     where
       out : T (not (in_moves ms x)) → T (in_moves ms x) → ⊥
@@ -132,7 +133,7 @@ module _ (base : ℕ) where
   smallest_first line no_waits o p = refl
   smallest_first {i = i} line (wait l ms ws) (open_at j q c o r) p =
       let e : min line l ≡ line = omega (arith, o.line_is) in
-      ap (λ (z : ℕ). smallest_line z ws) e ∙ smallest_first line ws r (omega arith)
+      ap (λ (z : ℕ). smallest_line z ws) e ∙ smallest_first {i = j + 1 + size (nodes_of_moves ms)} line ws r (omega arith)
 
   -- the choice is the first move of the first open wait
   pub record Free (ws : Waits) (k : Choice ws) : Type 0 where

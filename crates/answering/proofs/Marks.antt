@@ -99,7 +99,7 @@ module _ (base : ℕ) where
       let rows = same_twice (mark_rows t i 1) (marked_rows (nodes_of_waits ws) to one) in
       let ends : to + size (nodes_of_waits ws) ≡ i + size (nodes_of_waits (wait line ms ws)) = omega arith in
       let other : (m : ℕ) → i < m → count_in one m ≡ count_in t m = λ m p. mark_elsewhere t i 1 m (λ q. omega arith) in
-      let later = marked_open ws (each_same (mark_rows t i 1) f.1) l.2
+      let later = marked_open {t = one} {i = to} ws (each_same (mark_rows t i 1) f.1) l.2
       (clear_same (λ m lo hi. other m (omega arith)) (clear_within to (to + size (nodes_of_waits ws)) (omega arith) (omega arith) c)) in
       open_at {i = i}
       i
@@ -123,7 +123,7 @@ module _ (base : ℕ) where
     unfolding node_there
     place_at no_moves p e = absurd p
     place_at (move line c ws ms) (the_first u) e = (move_first line c ws ms e).0
-    place_at (move line c ws ms) (one_later p) e = place_at ms p (move_first line c ws ms e).1
+    place_at {i} (move line c ws ms) (one_later p) e = place_at {i = i + 1 + size (nodes_of_waits ws)} ms p (move_first line c ws ms e).1
 
   place_within : (i : ℕ) (ms : Moves) (p : PlaceIn ms)
       → (i ≤ node_there i ms p) × (node_there i ms p + 1 + size (nodes_of_waits (waits_there ms p)) ≤ i + size (nodes_of_moves ms))
@@ -174,8 +174,8 @@ module _ (base : ℕ) where
         room = rw e o.at.here.row.room;
         move_at = rw e (place_at ms p o.at.below);
       }
-  choice_nodes (wait line ms ws) (one_later k) (open_at j q c o r) =
-      let h = choice_nodes ws k r in
+  choice_nodes {i = i} (wait line ms ws) (one_later k) (open_at j q c o r) =
+      let h = choice_nodes {i = j + 1 + size (nodes_of_moves ms)} ws k r in
       record { from = omega (arith, h.from); below = h.below; within = h.within; room = h.room; move_at = h.move_at }
 
   -- the open waits after a choice: under the wait at node j, or under a later one
@@ -217,4 +217,4 @@ module _ (base : ℕ) where
       open_at j q
       (clear_same (λ m lo hi. before m (omega (arith, h.from))) c)
       (wait_same (after_rows t ws k) (λ m lo hi. before m (omega (arith, h.from))) o)
-      (opened_open ws k r)
+      (opened_open {i = j + 1 + size (nodes_of_moves ms)} ws k r)

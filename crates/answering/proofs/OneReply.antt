@@ -34,7 +34,7 @@ same_marks no_waits (none_open q c) (none_open p d) m lo hi = d.clear m lo hi �
 same_marks {n₁} {b} {t} {v} {n} {i} (wait line ms ws) (open_at j q c o r) (open_at k p d u w) m lo hi =
     let e : k ≡ j = omega (arith, o.line_is, u.line_is) in
     go (subst (λ (z : ℕ). Clear v i z) e d) (subst (λ (z : ℕ). OpenWait n₁ b v z line ms) e u)
-    (λ h. same_marks ws r (subst (λ (z : ℕ). Open n₁ b v n (z + 1 + size (nodes_of_moves ms)) ws) e w) m h hi)
+    (λ h. same_marks {i = j + 1 + size (nodes_of_moves ms)} ws r (subst (λ (z : ℕ). Open n₁ b v n (z + 1 + size (nodes_of_moves ms)) ws) e w) m h hi)
   where
     go : Clear v i j → OpenWait n₁ b v j line ms → (j + 1 + size (nodes_of_moves ms) ≤ m → count_in v m ≡ count_in t m) → count_in v m ≡ count_in t m
     go d u later =

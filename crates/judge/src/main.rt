@@ -3,14 +3,14 @@
 
 #![tactic(auto)]
 
-ghost use Rattle.std.specs.Prelude.{◌≡◌, ◌≤◌, length};
+ghost use Rattle.std.specs.Prelude.{◌≡◌, ◌≤◌, length, IfOk};
 ghost use Rattle.rules.specs.Sizes.{least_workspace};
 ghost use Rattle.report.specs.Line.{judge_line};
 ghost use Rattle.report.specs.Writing.{Wrote};
 
-use libc::{STDIN_FILENO, STDOUT_FILENO};
 use report::report;
 use sheet::judge;
+use std::io::{self, Read};
 
 // Judges the sheet, writes the line that is printed of it into the first bytes of the room, and returns its length.
 fn write_judge(text: &[u8], workspace: &mut [u32], room: &mut [u8]) -> usize
@@ -22,25 +22,45 @@ fn write_judge(text: &[u8], workspace: &mut [u32], room: &mut [u8]) -> usize
 }
 
 // Writes the line of the sheet's verdict to standard output, whole. (The sheet is handed in to say whose line it is.)
-fn print(text: &[u8], line: &[u8])
+fn print(out: &impl Print, text: &[u8], line: &[u8]) -> io::Result<()>
     requires { line.now ≡ judge_line least_workspace text.now }
 {
-    io::write_all(STDOUT_FILENO, line);
+    out.write_all(line)
 }
 
 // Judges the sheet and prints its line.
-fn print_judge(text: &[u8], workspace: &mut [u32], room: &mut [u8])
+fn print_judge(
+    out: &impl Print,
+    text: &[u8],
+    workspace: &mut [u32],
+    room: &mut [u8],
+) -> io::Result<()>
     requires { (length workspace.old ≡ least_workspace) × (77 ≤ length room.old) }
 {
     let end = write_judge(text, workspace, room);
-    print(text, &room[..end]);
+    print(out, text, &room[..end])
 }
 
-fn main() {
+// Reads until the room is full or the input ends, and returns how many bytes it put at the start.
+fn read_full(input: &mut impl Read, room: &mut [u8]) -> io::Result<usize>
+    ensures { IfOk result (λ n. n ≤ length room.new) }
+{
+    let mut done = 0;
+    while done < room.len() {
+        let got = input.read(&mut room[done..])?;
+        if got == 0 {
+            break;
+        }
+        done += got;
+    }
+    Ok(done)
+}
+
+fn main(rt: HostRuntime) -> io::Result<()> {
     // One byte more than a sheet may have, so that a longer text shows.
     let mut text = [0u8; 32769];
-    let n = io::read_full(STDIN_FILENO, &mut text);
+    let n = read_full(&mut rt.stdin(), &mut text)?;
     let mut workspace = [0u32; 8192];
     let mut room = [0u8; 77];
-    print_judge(&text[..n], &mut workspace, &mut room);
+    print_judge(&rt, &text[..n], &mut workspace, &mut room)
 }

@@ -76,7 +76,7 @@ module _ {b : Board} {t : List ℕ} {end : ℕ} where
   waits_before {i} {ws} (wait line ms us) e a =
       let f = wait_first line ms us e in
       let z : i + size (nodes_of_waits (wait line ms us)) ≡ i + 1 + size (nodes_of_moves ms) + size (nodes_of_waits us) = omega arith in
-      wait_ahead f.0 (waits_before us f.1 (subst (λ (k : ℕ). Ahead b t end k ws) z a))
+      wait_ahead f.0 (waits_before {i = i + 1 + size (nodes_of_moves ms)} us f.1 (subst (λ (k : ℕ). Ahead b t end k ws) z a))
 
   pub moves_before : {i : ℕ} {ws : Waits} (ms : Moves) → Each (Seated b t) a_move i (nodes_of_moves ms) → Ahead b t end (i + size (nodes_of_moves ms)) ws → Ahead b t end i ws
   unfolding nodes_of_moves size
@@ -84,7 +84,7 @@ module _ {b : Board} {t : List ℕ} {end : ℕ} where
   moves_before {i} {ws} (move line c us ms) e a =
       let f = move_first line c us ms e in
       let z : i + size (nodes_of_moves (move line c us ms)) ≡ i + 1 + size (nodes_of_waits us) + size (nodes_of_moves ms) = omega arith in
-      move_past us f.0 (moves_before ms f.1 (subst (λ (k : ℕ). Ahead b t end k ws) z a))
+      move_past us f.0 (moves_before {i = i + 1 + size (nodes_of_waits us)} ms f.1 (subst (λ (k : ℕ). Ahead b t end k ws) z a))
 
 -- the loop's invariant: what is ahead stays ahead
 pub record Passing (t : List ℕ) (end i next : ℕ) : Type 0 where
