@@ -12,7 +12,6 @@ use Rattle.rules.specs.Text.{Bytes}
 use Rattle.requests.specs.Request.{LineOf}
 use Rattle.requests.specs.Sent.{Sent, sent, NoneLies, NoneBegins, LineEnd, FirstLineEnd, WholeIn, PartialIn, in_line, in_text, MalformedIn, no_request, too_long, FoundIn}
 use Rattle.requests.specs.declared.RequestFound.{RequestFound}
-use Rattle.requests.specs.declared.RequestFound.TheVariants as RequestFound
 use Rattle.requests.specs.declared.Request.{Request}
 use Rattle.requests.proofs.Reading.{line_one, line_short, line_no_feed}
 

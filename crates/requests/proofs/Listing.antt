@@ -15,9 +15,7 @@ use Rattle.report.proofs.Line.{fields_append}
 use Rattle.rules.proofs.Decimal.{Every, every_none, every_more, every_append}
 use Rattle.requests.specs.Request.{most32, NumberReply, FieldEnd, CountOf, CountReply}
 use Rattle.requests.specs.declared.CountRead.{CountRead}
-use Rattle.requests.specs.declared.CountRead.TheVariants as CountRead
 use Rattle.requests.specs.declared.NumberRead.{NumberRead}
-use Rattle.requests.specs.declared.NumberRead.TheVariants as NumberRead
 use Rattle.requests.proofs.Fields.{field_one, decimal_no_tab, numbers_end, Others, fields_others, line_ends, field_split, field_no_tab}
 
 -- past its end a list reads as 0, so that 0 must have the property too

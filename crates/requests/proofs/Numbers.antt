@@ -16,7 +16,6 @@ use Rattle.rules.proofs.Decimal.{decimal_low, decimal_high, Digit, decimal_digit
 use Rattle.rules.proofs.ReadBack.{decimal_spells, decimal_well, spelled_take}
 use Rattle.requests.specs.Request.{most32, Plain, NumberReply}
 use Rattle.requests.specs.declared.NumberRead.{NumberRead}
-use Rattle.requests.specs.declared.NumberRead.TheVariants as NumberRead
 
 -- what would make a test true that is false does not hold
 pub refuted : {X : Type 0} (b : Bool) → b ≡ false → (X → b ≡ true) → ¬ X

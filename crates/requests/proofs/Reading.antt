@@ -16,12 +16,9 @@ use Rattle.report.proofs.Line.{fields_every, fields_short}
 use Rattle.rules.proofs.Decimal.{Every, every_none, every_more, every_append, every_so}
 use Rattle.requests.specs.Request.{name_of, FieldEnd, CountOf, AskReply, HasNumbers, RequestOf, AskedWith, RequestReply, LineOf, LineReply}
 use Rattle.requests.specs.declared.Ask.{Ask}
-use Rattle.requests.specs.declared.Ask.TheVariants as Ask
 use Rattle.requests.specs.declared.Request.{Request}
 use Rattle.requests.specs.declared.RequestRead.{RequestRead}
-use Rattle.requests.specs.declared.RequestRead.TheVariants as RequestRead
 use Rattle.requests.specs.declared.AskRead.{AskRead}
-use Rattle.requests.specs.declared.AskRead.TheVariants as AskRead
 use Rattle.requests.proofs.Fields.{NoTab, field_one, field_no_tab, numbers_end, fields_one, line_ends}
 
 -- a word that is none of the four asks nothing

@@ -4,16 +4,11 @@ use Rattle.rules.specs.Text.{Bytes}
 use Rattle.rules.specs.Decimal.{decimal}
 use Rattle.report.specs.Line.{fields}
 use Rattle.requests.specs.declared.Ask.{Ask}
-use Rattle.requests.specs.declared.Ask.TheVariants as Ask
 use Rattle.requests.specs.declared.AskRead.{AskRead}
-use Rattle.requests.specs.declared.AskRead.TheVariants as AskRead
 use Rattle.requests.specs.declared.NumberRead.{NumberRead}
-use Rattle.requests.specs.declared.NumberRead.TheVariants as NumberRead
 use Rattle.requests.specs.declared.Request.{Request}
 use Rattle.requests.specs.declared.RequestRead.{RequestRead}
-use Rattle.requests.specs.declared.RequestRead.TheVariants as RequestRead
 use Rattle.requests.specs.declared.CountRead.{CountRead}
-use Rattle.requests.specs.declared.CountRead.TheVariants as CountRead
 
 -- the words `judge`, `counts`, `play` and `outcome`
 abbrev pub name_of : Ask → Bytes

@@ -4,7 +4,6 @@ use Rattle.rules.specs.Text.{Bytes}
 use Rattle.requests.specs.Request.{FirstPlace, LineOf}
 use Rattle.requests.specs.declared.Request.{Request}
 use Rattle.requests.specs.declared.RequestFound.{RequestFound}
-use Rattle.requests.specs.declared.RequestFound.TheVariants as RequestFound
 
 -- a request as it is sent: its line, and the text of its sheet
 pub record Sent : Type 0 where

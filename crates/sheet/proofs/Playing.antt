@@ -29,11 +29,9 @@ use Rattle.nodes.proofs.Sheets.{living_whole}
 use Rattle.loading.specs.Held.{SheetHeld, SheetReply, SheetKept}
 use Rattle.loading.specs.declared.Loaded.{Loaded}
 use Rattle.loading.specs.declared.SheetRead.{SheetRead}
-use Rattle.loading.specs.declared.SheetRead.TheVariants as SheetRead
 use Rattle.loading.specs.Copied.{Copied}
 use Rattle.judging.specs.Checked.{passing, TellsAll}
 use Rattle.judging.specs.declared.AcceptedRead.{AcceptedRead}
-use Rattle.judging.specs.declared.AcceptedRead.TheVariants as AcceptedRead
 use Rattle.live.specs.Thinning.{KeepsLive}
 use Rattle.sheet.specs.Playing.{ReadyHeld, ReadyReply, PlayedKept}
 use Rattle.sheet.proofs.Judging.{text_accepted}

@@ -10,7 +10,6 @@ use Rattle.rules.specs.declared.Played.{Played}
 use Rattle.nodes.specs.declared.SetUp.{SetUp}
 use Rattle.loading.specs.Held.{SheetHeld}
 use Rattle.loading.specs.declared.SheetRead.{SheetRead}
-use Rattle.loading.specs.declared.SheetRead.TheVariants as SheetRead
 
 -- the text is an accepted sheet, which the table holds with what is set up before its tree
 pub record ReadyHeld (text : Bytes) (t : List ℕ) (b : Board) (p : Player) (u : SetUp) : Type 0 where
