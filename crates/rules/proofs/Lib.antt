@@ -1,3 +1,4 @@
+pub mod Computed
 pub mod Tests
 pub mod Lists
 pub mod Joining

@@ -26,7 +26,7 @@ use Rattle.rules.specs.UpTo.{NoSizeFrom}
 use Rattle.rules.specs.Before.{WithoutSetUp, SameWithoutSetUp}
 use Rattle.rules.specs.Once.{WithoutTwice, fair_without24}
 use Rattle.rules.specs.Samples.{byte_of, sheet, P1, P3, P8, p1, p3, p8, p8_first, p8_second, stones, on_stones, spare, on_spare}
-use Rattle.rules.specs.Computed.{p1_accepted, p1_opens, p1_header, p3_read, stones_accepted, stones_open, spare_taken, spare_answers, p8_counts, p8_passed}
+use Rattle.rules.proofs.Computed.{p1_accepted, p1_opens, p1_header, p3_read, stones_accepted, stones_open, spare_taken, spare_answers, p8_counts, p8_passed}
 use Rattle.rules.specs.declared.Verdict.TheVariants.{Accepted}
 use Rattle.rules.proofs.Steps.{some_inj}
 use Rattle.rules.proofs.Lines.{header_back, no_set_up_line}

@@ -1,5 +1,5 @@
 -- "So a wait with one move is always faulty."
-use mathlib.Core.Path.{◌≡◌, subst, subst⁻¹}
+use mathlib.Core.Path.{◌≡◌, subst⁻¹}
 use mathlib.Core.Logic.{inl, inr}
 use Prim.Native.Nat.{ℕ}
 use mathlib.Core.Bool.{true, ◌||◌}

@@ -16,7 +16,7 @@ use Rattle.rules.specs.Text.{Bytes, Reader}
 use Rattle.rules.specs.Lines.{Place, Line, move_line, wait_line}
 use Rattle.rules.specs.Tree.{Waits, no_waits, wait, Moves, no_moves, move, Wait, Move, as_waits, as_moves}
 use Rattle.rules.specs.Written.{place_of, how_many_waits, how_many_moves, written_move, written_wait, written_waits, written_moves}
-use Rattle.rules.specs.Reading.{Result, got, Spot, Reading, go, give, within, cell_of, Node, node_here, node_line, in_turn, read_move, read_wait}
+use Rattle.rules.specs.Reading.{Result, got, Spot, Reading, give, within, cell_of, Node, node_here, node_line, in_turn, read_move, read_wait}
 use Rattle.rules.specs.declared.Board.{Board}
 use Rattle.rules.proofs.Joining.{cell_on_lem}
 use Rattle.rules.proofs.Steps.{not_refused, got_inj, go_got}

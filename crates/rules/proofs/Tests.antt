@@ -1,11 +1,9 @@
--- Tests as statements: the connectives, a choice by a test, and a test as a number. (The sample tables are named here so that
--- they are computed before anything is proved from the definitions.)
+-- Tests as statements: the connectives, a choice by a test, and a test as a number.
 use mathlib.Core.Path.{◌≡◌, refl, sym, ap, ◌∙◌, subst, subst⁻¹}
 use mathlib.Core.Bool.{Bool, true, false, not, cond, ◌&&◌, ◌||◌, not-not}
 use mathlib.Core.Logic.{◌⊎◌, inl, inr}
 use lib.Dec.{T}
 use Rattle.rules.specs.Words.{one_if}
-use Rattle.rules.specs.Computed.{samples, traps_told}
 
 pub holds_of : {b : Bool} → b ≡ true → T b
 holds_of e = subst⁻¹ T e tt

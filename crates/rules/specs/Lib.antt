@@ -31,5 +31,4 @@ pub mod Spare
 pub mod Stopping
 pub mod GoesOn
 pub mod Samples
-pub mod Computed
 pub mod PatternSamples

@@ -3,7 +3,7 @@
 use Rattle.std.specs.Prelude.{ℕ, zero, suc, ◌+◌, ◌-◌, Bool, true, false, not, List, [], ◌∷◌, ◌++◌, map, eqb, ltb, length, get_or, take, drop, replicate}
 use Rattle.std.proofs.Math.Option.{Option, none, some}
 use Rattle.rules.specs.Sizes.{largest, most_bytes}
-use Rattle.rules.specs.Words.{if◌then◌else◌, any, same, first_that}
+use Rattle.rules.specs.Words.{any, same, first_that}
 use Rattle.rules.specs.Text.{Bytes, Reader}
 use Rattle.rules.specs.Lines.{Place, header_up_to, SetUpLine, set_up_line, kind_under}
 use Rattle.rules.specs.Tree.{Sheet}

@@ -1,5 +1,5 @@
 -- C-14 "Patterns by name": the lines of a typed sheet, and what each of them says.
-use Rattle.std.specs.Prelude.{ℕ, zero, suc, Bool, true, false, not, ◌&&◌, ◌||◌, List, [], ◌∷◌, eqb, leb, length}
+use Rattle.std.specs.Prelude.{ℕ, zero, suc, Bool, not, ◌&&◌, ◌||◌, List, [], ◌∷◌, eqb, leb, length}
 use Rattle.std.proofs.Math.Option.{none, some}
 use Rattle.rules.specs.Sizes.{most_under, longest_name, most_parameters, most_lines}
 use Rattle.rules.specs.Words.{if◌then◌else◌, same}

@@ -13,7 +13,7 @@ use Rattle.rules.specs.Answering.{start, answered, is_empty}
 use Rattle.rules.specs.Entries.{accepted, counts, judge, judged, JudgeKept, play, play_shown, workspace_after, room_after}
 use Rattle.rules.specs.Promise.{Ruled, MovesToEmpty}
 use Rattle.rules.specs.Samples.{sheet, P1, p1, stones, on_stones}
-use Rattle.rules.specs.Computed.{p1_accepted, stones_accepted}
+use Rattle.rules.proofs.Computed.{p1_accepted, stones_accepted}
 use Rattle.rules.specs.declared.Played.{Played}
 use Rattle.rules.specs.declared.Verdict.TheVariants.{Accepted}
 use Rattle.rules.proofs.Steps.{got_inj}
