@@ -12,7 +12,7 @@ use lib.ListN.{get_or}
 use Rattle.rules.specs.Words.{if◌then◌else◌, keep, up_to, first_or_none}
 use Rattle.rules.specs.Board.{On, is_cell, cells, cell_at, column_of, row_of, listed, smallest}
 use Rattle.rules.specs.declared.Board.{Board}
-use Rattle.rules.proofs.Tests.{true_of, false_of, left}
+use Rattle.rules.proofs.Tests.{true_of, false_of}
 use Rattle.rules.proofs.Lists.{keep_append}
 use Rattle.rules.proofs.Smallest.{smallest_some, smallest_zero, smallest_is}
 use Rattle.rules.proofs.Places.{range_cell, cell_place, at_place, column_at, row_at, cell_at_lem}

@@ -30,9 +30,7 @@ use Rattle.outcomes.specs.declared.Unjoined.{Unjoined}
 use Rattle.outcomes.specs.declared.Unjoined.TheVariants.{First, Nothing}
 use Rattle.judging.specs.Checked.{passing, Passed, Tells, TellsAll}
 use Rattle.judging.specs.declared.AcceptedRead.{AcceptedRead}
-use Rattle.judging.specs.declared.AcceptedRead.TheVariants as AcceptedRead
 use Rattle.judging.specs.declared.FairRead.{FairRead}
-use Rattle.judging.specs.declared.FairRead.TheVariants as FairRead
 
 -- what a check's answer told
 module _ (t : List ℕ) (b : Board) (s : Sheet) (check : Result Sheet) (r : FairRead) (h : Tells t b s check r) where

@@ -31,7 +31,6 @@ use Rattle.fair.specs.declared.Fault as answered
 use Rattle.live.specs.Thinning.{KeepsLive}
 use Rattle.judging.specs.Checked.{from_free, from_apart, from_twice, from_elusive, from_count, Says, Passed, Tells}
 use Rattle.judging.specs.declared.Checked.{Checked}
-use Rattle.judging.specs.declared.Checked.TheVariants as Checked
 use Rattle.judging.specs.declared.FairRead.{FairRead}
 
 -- a search for a fault, and the checks after it

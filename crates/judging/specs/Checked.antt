@@ -12,11 +12,8 @@ use Rattle.rules.specs.declared.Board.{Board}
 use Rattle.rules.specs.declared.Verdict.TheVariants.{OnSetUp, NotApart, NotElusive, TooManyOutcomes, SameBranch}
 use Rattle.live.specs.Thinning.{KeepsLive}
 use Rattle.judging.specs.declared.Checked.{Checked}
-use Rattle.judging.specs.declared.Checked.TheVariants as Checked
 use Rattle.judging.specs.declared.AcceptedRead.{AcceptedRead}
-use Rattle.judging.specs.declared.AcceptedRead.TheVariants as AcceptedRead
 use Rattle.judging.specs.declared.FairRead.{FairRead}
-use Rattle.judging.specs.declared.FairRead.TheVariants as FairRead
 
 -- the checks over every line: 11, from 24 on, from 10 on, and from 20 on
 unfoldable pub from_elusive : Sheet → Result Sheet
