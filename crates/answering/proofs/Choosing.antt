@@ -1,6 +1,6 @@
 -- The rule's answer in the table: under the open wait that holds the cell, or under the first open wait.
 use mathlib.Core.Path.{◌≡◌, refl, sym, ap, ◌∙◌, subst}
-use mathlib.Core.Logic.{◌⊎◌, ⊎_elim}
+use mathlib.Core.Logic.{⊎_elim}
 use mathlib.Core.Bool.{Bool, true, false, not}
 use mathlib.Core.Option.{Option, none, some, map}
 use Prim.Native.Nat.{ℕ, ◌+◌, ◌-◌, ◌*◌, ◌<◌, ◌≤◌, min}
@@ -15,7 +15,6 @@ use Rattle.rules.specs.Choice.{the_first, one_later, PlaceIn, Choice, first_move
 use Rattle.rules.specs.Answering.{smallest_line, first_line, touched_answer, free_answer, answer}
 use Rattle.rules.specs.declared.Board.{Board}
 use Rattle.rules.proofs.Tests.{decide, cases, nor_left, nor_right, cond_yes, cond_no, true_of}
-use Rattle.nodes.specs.Table.{At}
 use Rattle.answering.specs.Marks.{Open, open_at, Opens}
 use Rattle.answering.specs.Choosing.{touched_in, node_there, wait_node, move_node, without, Dodge, Asked}
 use Rattle.answering.specs.declared.Found.TheVariants as found

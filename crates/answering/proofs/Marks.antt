@@ -10,7 +10,7 @@ use Rattle.rules.specs.Tree.{Waits, no_waits, wait, Moves, no_moves, move, and_t
 use Rattle.rules.specs.Choice.{the_first, one_later, PlaceIn, cell_there, waits_there, Choice, taken, opened}
 use Rattle.rules.specs.declared.Board.{Board}
 use Rattle.nodes.specs.Nodes.{a_wait, a_move, size, nodes_of_waits, nodes_of_moves}
-use Rattle.nodes.specs.Table.{count_in, Property, Each, first, At}
+use Rattle.nodes.specs.Table.{count_in, Property, Each, At}
 use Rattle.nodes.proofs.Trees.{wait_first, move_first}
 use Rattle.answering.specs.Rows.{EndedOn, SameRows, with_mark, Clear, marked, LinedWaits, LinedMoves}
 use Rattle.answering.specs.Marks.{OpenWait, Open, none_open, open_at}

@@ -1,5 +1,5 @@
 -- The open waits as the table has them: a node's count is 1 at an open wait, and 0 at every other node.
-use Rattle.std.specs.Prelude.{◌≡◌, ℕ, ◌+◌, ◌-◌, ◌*◌, ◌<◌, ◌≤◌, List, length}
+use Rattle.std.specs.Prelude.{◌≡◌, ℕ, ◌+◌, ◌*◌, ◌<◌, ◌≤◌, List, length}
 use Rattle.rules.specs.Tree.{Waits, no_waits, wait, Moves}
 use Rattle.rules.specs.declared.Board.{Board}
 use Rattle.nodes.specs.Nodes.{a_wait, size, nodes_of_moves}

@@ -30,11 +30,9 @@ use Rattle.lines.specs.Seen.{Reads}
 use Rattle.reading.specs.Kept.{BodyReady, BodyStands, BodyReply, stored_after, BodyKept}
 use Rattle.reading.specs.declared.BodyRead.{BodyRead}
 use Rattle.reading.specs.declared.TreeRead.{TreeRead}
-use Rattle.reading.specs.declared.TreeRead.TheVariants as TreeRead
 use Rattle.loading.specs.Held.{SheetHeld, SheetReply, Unloaded, settled, loaded_from, loaded, SheetKept}
 use Rattle.loading.specs.declared.Loaded.{Loaded}
 use Rattle.loading.specs.declared.SheetRead.{SheetRead}
-use Rattle.loading.specs.declared.SheetRead.TheVariants as SheetRead
 
 -- the part of a text from a place on
 pub part_within : (s : Bytes) (at : ℕ) → length (take (length s - at) (drop at s)) ≤ length s

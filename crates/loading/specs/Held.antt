@@ -19,7 +19,6 @@ use Rattle.nodes.specs.declared.SetUp.{SetUp}
 use Rattle.reading.specs.Kept.{stored_after}
 use Rattle.loading.specs.declared.Loaded.{Loaded}
 use Rattle.loading.specs.declared.SheetRead.{SheetRead}
-use Rattle.loading.specs.declared.SheetRead.TheVariants as SheetRead
 
 -- the text reads as a sheet, which the table holds with what is set up before its tree
 pub record SheetHeld (text : Bytes) (t : List ℕ) (b : Board) (p : Player) (u : SetUp) : Type 0 where

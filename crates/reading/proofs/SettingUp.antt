@@ -31,7 +31,6 @@ use Rattle.reading.specs.SetUp.{NoStone, StoneGot, StoneRefused, StepKept, SetUp
 use Rattle.reading.specs.declared.Spot.{Spot}
 use Rattle.reading.specs.declared.Stones.{Stones}
 use Rattle.reading.specs.declared.Step.{Step}
-use Rattle.reading.specs.declared.Step.TheVariants as Step
 use Rattle.reading.specs.declared.Read.TheVariants as Read
 use Rattle.reading.specs.declared.Numbered.TheVariants.{On, Off}
 use Rattle.reading.proofs.OnBoard.{numbered_on, numbered_off}

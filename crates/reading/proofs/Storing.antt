@@ -16,9 +16,7 @@ use Rattle.reading.specs.Spots.{spot_of, Ready}
 use Rattle.reading.specs.Storing.{Stored, store_all, store_under, store_node}
 use Rattle.reading.specs.Kept.{read_seen, ReadyAfter, ReadKept, LineGot, SaidKept, next_spot}
 use Rattle.reading.specs.declared.Read.{Read}
-use Rattle.reading.specs.declared.Read.TheVariants as Read
 use Rattle.reading.specs.declared.Said.{Said}
-use Rattle.reading.specs.declared.Said.TheVariants as Said
 use Rattle.reading.specs.declared.Spot as code
 
 -- a loop over nodes, step by step

@@ -19,13 +19,10 @@ use Rattle.reading.specs.declared.Spot.{Spot}
 use Rattle.reading.specs.Storing.{Stored, store_node}
 use Rattle.reading.specs.declared.Stones.{Stones}
 use Rattle.reading.specs.declared.TreeRead.{TreeRead}
-use Rattle.reading.specs.declared.TreeRead.TheVariants as TreeRead
 use Rattle.reading.specs.declared.BodyRead.{BodyRead}
 use Rattle.rules.specs.declared.Verdict.{Verdict}
 use Rattle.reading.specs.declared.Read.{Read}
-use Rattle.reading.specs.declared.Read.TheVariants as Read
 use Rattle.reading.specs.declared.Said.{Said}
-use Rattle.reading.specs.declared.Said.TheVariants as Said
 
 -- the spot after a line that ends at a place
 abbrev pub next_spot : Spot → ℕ → Spot

@@ -12,9 +12,7 @@ use Rattle.reading.specs.Spots.{Ready}
 use Rattle.reading.specs.declared.Spot.{Spot}
 use Rattle.reading.specs.declared.Stones.{Stones}
 use Rattle.reading.specs.declared.Step.{Step}
-use Rattle.reading.specs.declared.Step.TheVariants as Step
 use Rattle.reading.specs.declared.Read.{Read}
-use Rattle.reading.specs.declared.Read.TheVariants as Read
 
 -- after the stones cs: no set-up line stands at the spot
 pub record NoStone (b : Board) (body : Bytes) (s : Spot) (cs : List Stone) (stones : Stones) : Type 0 where
