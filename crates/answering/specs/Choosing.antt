@@ -1,7 +1,7 @@
 -- Where the table has the open wait that holds a cell, and the chosen wait and move.
-use Rattle.std.specs.Prelude.{◌≡◌, Bool, not, ℕ, zero, suc, ◌+◌, ◌-◌, List, [], ◌∷◌}
+use Rattle.std.specs.Prelude.{◌≡◌, Bool, not, ℕ, zero, suc, ◌+◌, ◌-◌, List, [], ◌∷◌, if◌then◌else◌}
 use Rattle.std.proofs.Math.Option.{some}
-use Rattle.rules.specs.Words.{if◌then◌else◌, among}
+use Rattle.rules.specs.Words.{among}
 use Rattle.rules.specs.Tree.{Waits, no_waits, wait, Moves, no_moves, move}
 use Rattle.rules.specs.Fair.{in_moves, in_move}
 use Rattle.rules.specs.Choice.{the_first, one_later, PlaceIn, Choice, taken, opened, first_move}

@@ -1,4 +1,5 @@
 -- A block of columns and rows as words: 2 ^ (right + 1) - 2 ^ left has the digits left to right.
+use Rattle.std.specs.Prelude.{if◌then◌else◌}
 use mathlib.Core.Path.{◌≡◌, refl, sym, ap, ◌∙◌}
 use mathlib.Core.Bool.{false}
 use mathlib.Core.List.{List}
@@ -10,7 +11,6 @@ use borrow.Author.Tests.{le-leb, lt-leb}
 use lib.Dec.{leb}
 use lib.ListN.{length, replicate}
 use lib.Pow.{pow_pos, high_ones, ones_lt, shl-shr, shr-shr}
-use Rattle.rules.specs.Words.{if◌then◌else◌}
 use Rattle.rules.specs.declared.Board.{Board}
 use Rattle.cells.specs.Cells.{digit}
 use Rattle.cells.specs.Rows.{In, fill, merged_rows, Block, Clipped}

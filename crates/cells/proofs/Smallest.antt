@@ -1,4 +1,5 @@
 -- The smallest cell of a set: the laws of `smallest`, and how the words give it.
+use Rattle.std.specs.Prelude.{if◌then◌else◌}
 use mathlib.Core.Path.{◌≡◌, refl, sym, ap, ◌∙◌, subst}
 use mathlib.Core.Bool.{Bool}
 use mathlib.Core.List.{List, [], ◌∷◌, ◌++◌, append-nil}
@@ -9,7 +10,7 @@ use native.Mathlib.Omega.{arith}
 use lib.Count.{count_trailing_zeros, under}
 use lib.Dec.{T}
 use lib.ListN.{get_or}
-use Rattle.rules.specs.Words.{if◌then◌else◌, keep, up_to, first_or_none}
+use Rattle.rules.specs.Words.{keep, up_to, first_or_none}
 use Rattle.rules.specs.Board.{On, is_cell, cells, cell_at, column_of, row_of, listed, smallest}
 use Rattle.rules.specs.declared.Board.{Board}
 use Rattle.rules.proofs.Tests.{true_of, false_of}

@@ -1,9 +1,8 @@
 -- What a text that was read leaves: the sheet is held in the table, its set-up stones in two sets, or it is refused; and the table,
 -- number by number.
-use Rattle.std.specs.Prelude.{◌≡◌, ℕ, List, [], ltb, length}
+use Rattle.std.specs.Prelude.{◌≡◌, ℕ, List, [], ltb, length, if◌then◌else◌}
 use Rattle.std.proofs.Math.Option.{Option, none, some}
 use Rattle.rules.specs.Sizes.{most_bytes}
-use Rattle.rules.specs.Words.{if◌then◌else◌}
 use Rattle.rules.specs.Lines.{Header, header_line}
 use Rattle.rules.specs.Text.{Bytes}
 use Rattle.rules.specs.Tree.{Sheet}

@@ -1,6 +1,6 @@
 -- The number of the cell that a line names, where it is on the board.
+use Rattle.std.specs.Prelude.{if◌then◌else◌}
 use Rattle.std.proofs.Math.Option.{Option}
-use Rattle.rules.specs.Words.{if◌then◌else◌}
 use Rattle.rules.specs.Lines.{Place}
 use Rattle.rules.specs.Reading.{within, cell_of}
 use Rattle.rules.specs.declared.Board.{Board}

@@ -1,4 +1,5 @@
 -- How the code reads a request's line: its word, its numbers and their limits; and the laws of such lines.
+use Rattle.std.specs.Prelude.{if◌then◌else◌}
 use mathlib.Core.Path.{◌≡◌, refl, sym, ap, ◌∙◌}
 use Prim.Native.Nat.{ℕ, ◌+◌, ◌*◌, ◌<◌, ◌≤◌}
 use mathlib.Core.Bool.{Bool, true, false, ◌&&◌}
@@ -9,7 +10,6 @@ use lib.Dec.{T, eqb, leb, leb→le}
 use lib.ListN.{length, get_or, take, drop, length-append, length-take, take-append-drop}
 use lib.Seq.{length-take-le, get_or-take}
 use Rattle.rules.specs.Text.{Bytes}
-use Rattle.rules.specs.Words.{if◌then◌else◌}
 use Rattle.rules.proofs.Tests.{fst, snd}
 use Rattle.report.specs.Line.{fields}
 use Rattle.report.proofs.Line.{fields_every, fields_short}

@@ -1,4 +1,5 @@
 -- The test `joined` and the chain of neighbours `Joins` say the same.
+use Rattle.std.specs.Prelude.{if◌then◌else◌}
 use mathlib.Core.Path.{◌≡◌, refl, ap, subst, subst⁻¹}
 use mathlib.Core.Logic.{◌⊎◌, inl, inr, ◌↔◌}
 use Prim.Native.Nat.{ℕ, zero, suc, ◌+◌, ◌-◌, ◌*◌, ◌≤◌}
@@ -8,7 +9,7 @@ use mathlib.Core.List.{List, [], ◌∷◌, ◌++◌}
 use lib.Dec.{T, eqb, eqb_refl, eqb→eq, leb, leb→le, le→leb}
 use lib.ListN.{length}
 use native.Mathlib.Omega.{arith}
-use Rattle.rules.specs.Words.{if◌then◌else◌, among, keep, up_to}
+use Rattle.rules.specs.Words.{among, keep, up_to}
 use Rattle.rules.specs.Board.{on_board, cell_at, cells, is_cell, there, around, neighbours, on_first_side, on_last_side, listed}
 use Rattle.rules.specs.Joining.{Chain, here, step, Joins, touches, grow, reached_in, joined}
 use Rattle.rules.specs.declared.Board.{Board}

@@ -1,4 +1,5 @@
 -- Laws of the words of `specs/Words`: lists of numbers as sets, what is kept, the numbers 1 to n.
+use Rattle.std.specs.Prelude.{if◌then◌else◌}
 use mathlib.Core.Path.{◌≡◌, refl, ap, subst, subst⁻¹, ◌∙◌}
 use mathlib.Core.Logic.{◌≢◌, ◌⊎◌, inl, inr}
 use Prim.Native.Nat.{ℕ, zero, suc, ◌+◌, ◌-◌, ◌≤◌}
@@ -9,7 +10,7 @@ use lib.ListN.{length, take, drop, length-drop}
 use lib.Seq.{take_all}
 use native.Mathlib.Decide.{ℕ_discrete}
 use native.Mathlib.Omega.{arith}
-use Rattle.rules.specs.Words.{if◌then◌else◌, ◌∈◌, at_head, in_tail, among, keep, any, up_to}
+use Rattle.rules.specs.Words.{◌∈◌, at_head, in_tail, among, keep, any, up_to}
 use Rattle.rules.proofs.Tests.{holds_of, left, right, cases}
 
 -- a list with a first element is not empty

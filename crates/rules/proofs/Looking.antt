@@ -1,5 +1,6 @@
 -- C-15 of a tree: its lists of moves, what goes on from the moves of a wait, and the walk that stops as soon as the stones join, which
 -- looks at all outcomes but those that are passed over.
+use Rattle.std.specs.Prelude.{if◌then◌else◌}
 use mathlib.Core.Path.{◌≡◌, refl, sym, ap, ap₂, subst, ◌∙◌}
 use mathlib.Core.Logic.{◌≢◌}
 use Prim.Native.Nat.{ℕ, ◌+◌, ◌*◌, ◌≤◌}
@@ -9,7 +10,7 @@ use mathlib.Core.Bool.{Bool, true, false, not}
 use mathlib.Core.List.{List, [], ◌∷◌, ◌++◌, map, append_assoc, map-append}
 use lib.Dec.{T, eqb}
 use lib.ListN.{length, length-map}
-use Rattle.rules.specs.Words.{if◌then◌else◌, ◌∈◌, at_head, in_tail, among, any, one_if}
+use Rattle.rules.specs.Words.{◌∈◌, at_head, in_tail, among, any, one_if}
 use Rattle.rules.specs.Joining.{joined}
 use Rattle.rules.specs.Tree.{Waits, no_waits, wait, Moves, no_moves, move, Wait, Move, Sheet, stone, and_then, own_cells, at_start, waits_of_waits, waits_of_moves, every_wait}
 use Rattle.rules.specs.Live.{living}

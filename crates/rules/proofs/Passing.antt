@@ -1,5 +1,6 @@
 -- C-15 of lists of moves: where the stones join all but the first are passed over (A); where they do not, lists that begin with
 -- different moves are counted apart (B).
+use Rattle.std.specs.Prelude.{if◌then◌else◌}
 use mathlib.Core.Path.{◌≡◌, refl, sym, ap, ap₂, ◌∙◌}
 use Prim.Native.Nat.{ℕ, ◌+◌, ◌≤◌}
 use native.Mathlib.Omega.{arith}
@@ -9,7 +10,7 @@ use mathlib.Core.Option
 use mathlib.Core.Option.{Option, none, some}
 use lib.Dec.{T, eqb, eqb_refl}
 use lib.ListN.{length, length-map}
-use Rattle.rules.specs.Words.{if◌then◌else◌, among, any, first_that, one_if}
+use Rattle.rules.specs.Words.{among, any, first_that, one_if}
 use Rattle.rules.specs.Joining.{joined}
 use Rattle.rules.specs.Tree.{Move, stone}
 use Rattle.rules.specs.Passing.{stones_of, beginnings, shortest, begins, begins_there, is_passed, passed_among}

@@ -1,4 +1,5 @@
 -- The computed beginning is the shortest one that joins.
+use Rattle.std.specs.Prelude.{if◌then◌else◌}
 use mathlib.Core.Path.{◌≡◌, refl, sym, ap, subst, subst⁻¹, ◌∙◌}
 use mathlib.Core.Logic.{◌↔◌}
 use Prim.Native.Nat.{ℕ, ◌<◌}
@@ -7,7 +8,7 @@ use mathlib.Core.Bool.{Bool, true, false}
 use mathlib.Core.List.{List, [], ◌∷◌, ◌++◌, append-nil, append_assoc}
 use mathlib.Core.Option.{Option, none, some, map}
 use lib.ListN.{length}
-use Rattle.rules.specs.Words.{if◌then◌else◌, among, first_that}
+use Rattle.rules.specs.Words.{among, first_that}
 use Rattle.rules.specs.Joining.{Joins, joined}
 use Rattle.rules.specs.Tree.{Move, stone}
 use Rattle.rules.specs.Passing.{stones_of, beginnings, shortest, IsShortest}

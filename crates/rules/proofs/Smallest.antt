@@ -1,4 +1,5 @@
 -- The smallest cell of a set, and the first faulty node of a list: the computed ones are those that the plain statements name.
+use Rattle.std.specs.Prelude.{if◌then◌else◌}
 use mathlib.Core.Path.{◌≡◌, refl, sym, ap, subst, subst⁻¹, ◌∙◌}
 use mathlib.Core.Logic.{inl, inr}
 use Prim.Native.Nat.{ℕ, zero, suc, ◌≤◌}
@@ -8,7 +9,7 @@ use mathlib.Core.List.{List, [], ◌∷◌, ◌++◌}
 use mathlib.Core.Option.{Option, none, some}
 use lib.Dec.{T, eqb, eqb_refl, eqb→eq, leb, leb→le}
 use native.Mathlib.Omega.{arith}
-use Rattle.rules.specs.Words.{if◌then◌else◌, ◌∈◌, among, keep, up_to, first_or_none}
+use Rattle.rules.specs.Words.{◌∈◌, among, keep, up_to, first_or_none}
 use Rattle.rules.specs.Board.{cells, is_cell, listed, smallest}
 use Rattle.rules.specs.Fair.{Fault, fault_at, first_fault}
 use Rattle.rules.specs.Plain.{IsFirst}

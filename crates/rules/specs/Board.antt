@@ -1,6 +1,6 @@
 -- "The board": its cells, their numbers and their neighbours, and the sides that a player joins.
-use Rattle.std.specs.Prelude.{ℕ, ◌+◌, ◌*◌, ◌-◌, ◌/◌, ◌%◌, ◌≤◌, Bool, ◌&&◌, List, [], ◌∷◌, ◌++◌, eqb, leb}
-use Rattle.rules.specs.Words.{if◌then◌else◌, keep, up_to, first_or_none}
+use Rattle.std.specs.Prelude.{ℕ, ◌+◌, ◌*◌, ◌-◌, ◌/◌, ◌%◌, ◌≤◌, Bool, ◌&&◌, List, [], ◌∷◌, ◌++◌, eqb, leb, if◌then◌else◌}
+use Rattle.rules.specs.Words.{keep, up_to, first_or_none}
 use Rattle.rules.specs.declared.Board.{Board}
 use Rattle.rules.specs.declared.Player.{Player}
 use Rattle.rules.specs.declared.Player.TheVariants.{D, A}

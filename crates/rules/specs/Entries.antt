@@ -1,8 +1,8 @@
 -- "Three entries": what judge, play and outcome reply, and what they leave in the lent memory.
-use Rattle.std.specs.Prelude.{◌≡◌, ℕ, ◌+◌, Bool, true, false, not, List, [], ◌∷◌, ◌++◌, ltb, length, get_or, drop, replicate}
+use Rattle.std.specs.Prelude.{◌≡◌, ℕ, ◌+◌, Bool, true, false, not, List, [], ◌∷◌, ◌++◌, ltb, length, get_or, drop, replicate, if◌then◌else◌}
 use Rattle.std.proofs.Math.Option.{Option, none, some}
 use Rattle.rules.specs.Sizes.{largest, most_bytes, least_workspace, most_outcomes}
-use Rattle.rules.specs.Words.{if◌then◌else◌, among}
+use Rattle.rules.specs.Words.{among}
 use Rattle.rules.specs.Text.{Bytes}
 use Rattle.rules.specs.Board.{is_cell, listed}
 use Rattle.rules.specs.Joining.{joined}

@@ -1,8 +1,8 @@
 -- "Fair sheets": the cells of a node, apart and elusive, each with its first faulty node and that node's smallest faulty cell; and, of
 -- document 02, free (C-11) and no branch twice (C-20).
-use Rattle.std.specs.Prelude.{ℕ, zero, suc, ◌+◌, Bool, true, false, ◌&&◌, ◌||◌, List, [], ◌∷◌, ◌++◌, eqb, leb}
+use Rattle.std.specs.Prelude.{ℕ, zero, suc, ◌+◌, Bool, true, false, ◌&&◌, ◌||◌, List, [], ◌∷◌, ◌++◌, eqb, leb, if◌then◌else◌}
 use Rattle.std.proofs.Math.Option.{Option, none, some}
-use Rattle.rules.specs.Words.{if◌then◌else◌, among, first_some, twice, one_if}
+use Rattle.rules.specs.Words.{among, first_some, twice, one_if}
 use Rattle.rules.specs.Board.{smallest}
 use Rattle.rules.specs.Tree.{Waits, no_waits, wait, Moves, no_moves, move, Wait, Move, Stone, Sheet, set_up_cells, every_move, every_wait}
 use Rattle.rules.specs.Written.{how_many_waits, how_many_moves}

@@ -1,7 +1,7 @@
 -- Document 02, C-15: which outcomes are passed over and how many, and the walk that stops as soon as the stones join.
-use Rattle.std.specs.Prelude.{◌≡◌, ℕ, ◌+◌, ◌<◌, Bool, true, false, not, ◌&&◌, List, [], ◌∷◌, ◌++◌, map, T, eqb, length}
+use Rattle.std.specs.Prelude.{◌≡◌, ℕ, ◌+◌, ◌<◌, Bool, true, false, not, ◌&&◌, List, [], ◌∷◌, ◌++◌, map, T, eqb, length, if◌then◌else◌}
 use Rattle.std.proofs.Math.Option.{Option, none, some}
-use Rattle.rules.specs.Words.{if◌then◌else◌, among, any, first_that, one_if}
+use Rattle.rules.specs.Words.{among, any, first_that, one_if}
 use Rattle.rules.specs.Joining.{joined, Joins}
 use Rattle.rules.specs.Tree.{Waits, no_waits, wait, Moves, no_moves, move, Move, Sheet, stone, own_cells, at_start}
 use Rattle.rules.specs.Live.{living}

@@ -1,9 +1,9 @@
 -- "The sheet" and "Three entries", 3 to 9 and 19: the header, the set-up lines, then the nodes in preorder. The first line with
 -- a fault decides.
-use Rattle.std.specs.Prelude.{ℕ, zero, suc, ◌+◌, Bool, true, false, not, List, [], ◌∷◌, ◌++◌, eqb, length}
+use Rattle.std.specs.Prelude.{ℕ, zero, suc, ◌+◌, Bool, true, false, not, List, [], ◌∷◌, ◌++◌, eqb, length, if◌then◌else◌}
 use Rattle.std.proofs.Math.Option.{Option, none, some}
 use Rattle.rules.specs.Sizes.{largest, most_nodes, most_depth}
-use Rattle.rules.specs.Words.{if◌then◌else◌, among}
+use Rattle.rules.specs.Words.{among}
 use Rattle.rules.specs.Board.{on_board, cell_at}
 use Rattle.rules.specs.Text.{Bytes, Reader, ◌or_else◌}
 use Rattle.rules.specs.Lines.{Line, Place, Header, header_up_to, SetUpLine, set_up_line, move_line, dash_line, wait_line}

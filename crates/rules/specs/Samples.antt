@@ -1,9 +1,9 @@
 -- "Sample sheets" and "Traps for the setter's tool": two tables of requests and replies, P1 to P12 the first.
-use Rattle.std.specs.Prelude.{ℕ, ◌+◌, List, [], ◌∷◌, map, eqb}
+use Rattle.std.specs.Prelude.{ℕ, ◌+◌, List, [], ◌∷◌, map, eqb, if◌then◌else◌}
 use Prim.Native.Char.{code}
 use Prim.Native.String as S
 use Rattle.rules.specs.Sizes.{least_workspace}
-use Rattle.rules.specs.Words.{if◌then◌else◌, one_if}
+use Rattle.rules.specs.Words.{one_if}
 use Rattle.rules.specs.Text.{Bytes}
 use Rattle.rules.specs.Lines.{own, opp}
 use Rattle.rules.specs.Tree.{Waits, no_waits, wait, Moves, no_moves, move, Move, Sheet}

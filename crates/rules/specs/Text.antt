@@ -1,10 +1,9 @@
 -- "The sheet": reading from the front of a text. A reader takes the bytes that are left, and gives what it read with the
 -- bytes after it, or nothing where the text does not begin so.
-use Rattle.std.specs.Prelude.{ℕ, ◌+◌, ◌*◌, ◌-◌, Bool, true, false, not, ◌&&◌, List, [], ◌∷◌, eqb, leb}
+use Rattle.std.specs.Prelude.{ℕ, ◌+◌, ◌*◌, ◌-◌, Bool, true, false, not, ◌&&◌, List, [], ◌∷◌, eqb, leb, if◌then◌else◌}
 use Rattle.std.proofs.Math.Option.{Option, none, some}
 use Prim.Native.Char.{code}
 use Prim.Native.String as S
-use Rattle.rules.specs.Words.{if◌then◌else◌}
 
 abbrev pub Bytes : Type 0
 Bytes = List ℕ

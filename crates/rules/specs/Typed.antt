@@ -1,8 +1,8 @@
 -- C-14 "Patterns by name": the lines of a typed sheet, and what each of them says.
-use Rattle.std.specs.Prelude.{ℕ, zero, suc, Bool, not, ◌&&◌, ◌||◌, List, [], ◌∷◌, eqb, leb, length}
+use Rattle.std.specs.Prelude.{ℕ, zero, suc, Bool, not, ◌&&◌, ◌||◌, List, [], ◌∷◌, eqb, leb, length, if◌then◌else◌}
 use Rattle.std.proofs.Math.Option.{none, some}
 use Rattle.rules.specs.Sizes.{most_under, longest_name, most_parameters, most_lines}
-use Rattle.rules.specs.Words.{if◌then◌else◌, same}
+use Rattle.rules.specs.Words.{same}
 use Rattle.rules.specs.Text.{Bytes, Reader, ◌>>=◌, ◌>>◌, ◌or_else◌, give, word, tab, line_feed, is_digit, number_in}
 use Rattle.rules.specs.Lines.{Place, place, wait_line}
 use Rattle.rules.specs.Written.{printed}

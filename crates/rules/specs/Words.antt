@@ -1,13 +1,8 @@
--- Small words that every definition is written with: a choice by a test, and lists.
-use Rattle.std.specs.Prelude.{ℕ, zero, suc, ◌+◌, Bool, true, false, ◌&&◌, ◌||◌, List, [], ◌∷◌, ◌++◌, eqb}
+-- Small words that every definition is written with: lists.
+use Rattle.std.specs.Prelude.{ℕ, zero, suc, ◌+◌, Bool, true, false, ◌&&◌, ◌||◌, List, [], ◌∷◌, ◌++◌, eqb, if◌then◌else◌}
 use Rattle.std.proofs.Math.Option.{Option, none, some}
 
-infix 5 if◌then◌else◌
 infix 20 ◌∈◌
-abbrev pub if◌then◌else◌ : {A : Type 0} → Bool → A → A → A
-if true then a else b = a
-if false then a else b = b
-
 -- x is in the list: as a statement, and for numbers as a test
 pub data ◌∈◌ {A : Type 0} (x : A) : List A → Type 0 where
   at_head : {xs : List A} → x ∈ (x ∷ xs)
