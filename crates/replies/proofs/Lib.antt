@@ -5,3 +5,4 @@ pub mod Moving
 pub mod Laid
 pub mod Samples
 pub mod OneReply
+pub mod Looking

@@ -5,15 +5,15 @@ use mathlib.Core.List.{[], ◌++◌, append-nil}
 use native.Mathlib.Omega.{arith}
 use lib.ListN.{length, take, drop, length-append, length-take, length-drop, take-append-drop}
 use lib.Seq.{length-take-le, get_or-take, take-append-add, drop-append-le, drop-drop, ext_get_or}
+use Rattle.std.proofs.Common.{Result, Ok, Err, OnErr}
 use Rattle.rules.specs.Text.{Bytes}
 use Rattle.loading.specs.Copied.{Copied}
 use Rattle.requests.specs.Sent.{NoneLies}
 use Rattle.replies.specs.Answers.{GatheredFrom}
-use Rattle.replies.specs.Window.{Within, bytes_of, Moved, PlaceBehind, ReadBehind, ReadOn, TakenFrom, WentOn, RequestsEnd, AnsweredNext}
+use Rattle.replies.specs.Window.{Within, bytes_of, Moved, PlaceBehind, ReadBehind, ReadOn, StillThere, TakenFrom, WentOn, RequestsEnd, AnsweredNext, LeftThere}
 use Rattle.replies.specs.declared.window.Window.{Window}
 use Rattle.replies.specs.declared.answers.Gathered.{Gathered}
 use Rattle.replies.specs.declared.window.NextWindow.{NextWindow}
-use Rattle.replies.specs.declared.window.NextWindow.TheVariants as NextWindow
 use Rattle.replies.proofs.Replying.{later_numbers}
 
 -- a window has as many bytes as it is long
@@ -74,6 +74,16 @@ read_behind {buffer} {w} {buffer₁} {w₁} new last got r fits =
           ∙ ap (λ (t : Bytes). t ++ take got news) r.moved.same;
     }
 
+-- so they still lie there
+pub still_there : {buffer : Bytes} {w : Window} {buffer₁ : Bytes} {w₁ : Window} (new last : Bytes) → PlaceBehind buffer w buffer₁ w₁
+    → StillThere buffer w (take w₁.end buffer₁ ++ (new ++ last))
+still_there {w₁ = w₁} new last r = (record { start = w₁.start; end = w₁.end + 0 }, read_behind new last 0 r (omega arith))
+
+-- what holds on any return holds on a failed one
+pub on_err : {T E P : Type 0} (r : Result T E) → P → OnErr r P
+on_err (Ok x) p = tt
+on_err (Err e) p = p
+
 -- nothing was read
 pub read_none : {buffer : Bytes} {w : Window} → Within buffer w → ReadBehind buffer w buffer w
 read_none {buffer} {w} h = record { within = h; more = []; behind = sym (append-nil (bytes_of buffer w)) }
@@ -114,6 +124,12 @@ module _ {buffer : Bytes} {w : Window} {replies : Bytes} {g : Gathered} (h : Wit
         taken = taken_from;
         after = r.behind ∙ ap (λ (t : Bytes). t ++ r.more) beyond_bytes;
       }
+
+  pub left_there : {buffer' : Bytes} → StillThere buffer (beyond w g.taken) buffer' → LeftThere buffer w buffer'
+  left_there s = (s.0, went_on s.1)
+
+  pub all_left : LeftThere buffer w buffer
+  all_left = (beyond w g.taken, went_on (read_none beyond_within))
 
   pub ended : NoneLies (drop g.taken (bytes_of buffer w)) → RequestsEnd buffer w
   ended none = record { left = drop g.taken (bytes_of buffer w); taken = taken_from; none = none }

@@ -21,7 +21,6 @@ use Rattle.report.proofs.Line.{wrote_judge}
 use Rattle.requests.specs.Request.{RequestOf}
 use Rattle.requests.proofs.Reading.{count_within, play_counted}
 use Rattle.requests.specs.declared.Ask.{Ask}
-use Rattle.requests.specs.declared.Ask.TheVariants as Ask
 use Rattle.requests.specs.declared.Request.{Request}
 use Rattle.replies.specs.Reply.{told_line, verdict_line, play_line, outcome_line, reply_of}
 

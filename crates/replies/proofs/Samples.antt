@@ -10,7 +10,6 @@ use Rattle.rules.specs.Samples.{byte_of, sheet}
 use Rattle.rules.specs.Decimal.{leading, decimal}
 use Rattle.report.specs.Line.{fields, line_of, report_line, judge_line}
 use Rattle.requests.specs.declared.Ask.{Ask}
-use Rattle.requests.specs.declared.Ask.TheVariants as Ask
 use Rattle.requests.specs.declared.Request.{Request}
 use Rattle.replies.specs.Reply.{verdict_line, play_line, outcome_line, reply_of}
 

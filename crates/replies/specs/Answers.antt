@@ -5,9 +5,7 @@ use Rattle.report.specs.Writing.{Wrote}
 use Rattle.requests.specs.Sent.{Sent, sent, PartialIn, MalformedIn}
 use Rattle.replies.specs.Reply.{reply_of}
 use Rattle.replies.specs.declared.answers.FirstReply.{FirstReply}
-use Rattle.replies.specs.declared.answers.FirstReply.TheVariants as FirstReply
 use Rattle.replies.specs.declared.answers.Ending.{Ending}
-use Rattle.replies.specs.declared.answers.Ending.TheVariants as Ending
 use Rattle.replies.specs.declared.answers.Gathered.{Gathered}
 
 -- the reply to a request

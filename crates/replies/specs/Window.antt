@@ -5,7 +5,6 @@ use Rattle.requests.specs.Sent.{NoneLies}
 use Rattle.replies.specs.Answers.{RepliesTo}
 use Rattle.replies.specs.declared.window.Window.{Window}
 use Rattle.replies.specs.declared.window.NextWindow.{NextWindow}
-use Rattle.replies.specs.declared.window.NextWindow.TheVariants as NextWindow
 
 -- the window lies in the buffer
 pub record Within (buffer : Bytes) (w : Window) : Type 0 where
@@ -35,6 +34,10 @@ abbrev pub ReadOn : (buffer : Bytes) (w : Window) (buffer' : Bytes) → NextWind
 ReadOn buffer w buffer' (NextWindow.On w') = ReadBehind buffer w buffer' w'
 ReadOn buffer w buffer' NextWindow.Last = Unit {0}
 
+-- where a read or a write failed, the bytes of the window still lie in the buffer
+abbrev pub StillThere : (buffer : Bytes) (w : Window) (buffer' : Bytes) → Type 0
+StillThere buffer w buffer' = (w' : Window) × ReadBehind buffer w buffer' w'
+
 -- requests were taken from the front of the window
 pub record TakenFrom (buffer : Bytes) (w : Window) (left : Bytes) : Type 0 where
   pub asked : Bytes
@@ -59,3 +62,7 @@ pub record RequestsEnd (buffer : Bytes) (w : Window) : Type 0 where
 abbrev pub AnsweredNext : (buffer : Bytes) (w : Window) (buffer' : Bytes) → NextWindow → Type 0
 AnsweredNext buffer w buffer' (NextWindow.On w') = WentOn buffer w buffer' w'
 AnsweredNext buffer w buffer' NextWindow.Last = RequestsEnd buffer w
+
+-- where a read or a write failed, what is left of the window still lies in the buffer
+abbrev pub LeftThere : (buffer : Bytes) (w : Window) (buffer' : Bytes) → Type 0
+LeftThere buffer w buffer' = (w' : Window) × WentOn buffer w buffer' w'

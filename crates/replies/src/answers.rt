@@ -4,25 +4,23 @@ ghost use Rattle.report.specs.Writing.{Wrote};
 ghost use Rattle.requests.specs.Request.{RequestOf};
 ghost use Rattle.requests.specs.Sent.{WholeIn};
 ghost use Rattle.replies.specs.Reply.{verdict_line, play_line, outcome_line, reply_of};
-ghost use Rattle.replies.specs.Answers.{AnswerOf, gathered_as, GatheredFrom};
+ghost use Rattle.replies.specs.Answers.{Replies, AnswerOf, gathered_as, GatheredFrom};
 ghost use Rattle.replies.specs.Lent.{FilledFrom};
 
 use crate::lent::{fill, lent_right, workspace_right};
 use crate::print;
-use libc::STDOUT_FILENO;
 use report::{one_if, report, tell, tell_all, write_line};
 use requests::{Ask, Request, RequestFound, find};
 use sheet::{judge, outcome, play};
+use std::io::{self, Stdout};
 
 // Prints the replies that were gathered, and says that the memory that was lent is not what document 01 lays down. It is proved that it
-// never comes to that.
-fn say_memory(replies: &[u8], at: usize) -> usize
-    requires { ⊥ }
-    ensures { ⊥ }
+// never comes to that: `unreachable!()` stands behind each call.
+fn say_memory(out: Stdout, replies: &[u8], at: usize) -> io::Result<()>
+    requires { (at ≤ length replies.now) × Replies (take at replies.now) }
 {
-    print(replies, at);
-    io::write_all(STDOUT_FILENO, b"memory\n");
-    0
+    print(out, replies, at)?;
+    out.write_all(b"memory\n")
 }
 
 // The most bytes of a reply's line: seven numbers and a thousand more, each of ten digits and followed by a tab or the line feed.
@@ -38,6 +36,7 @@ fn narrow(n: usize) -> u32
 
 // Judges the sheet with a workspace that was filled, and writes the reply: the judging program's line, or all counts.
 fn write_judge(
+    out: Stdout,
     text: &[u8],
     workspace: &mut [u32],
     all: bool,
@@ -49,7 +48,8 @@ fn write_judge(
 {
     let verdict = judge(text, workspace);
     if !workspace_right(workspace) {
-        return say_memory(replies, at);
+        let _ = say_memory(out, replies, at);
+        unreachable!()
     }
     if !all {
         return report(replies, at, verdict);
@@ -61,6 +61,7 @@ fn write_judge(
 
 // Plays the cells on the sheet with memory that was filled, and writes the reply.
 fn write_play(
+    out: Stdout,
     text: &[u8],
     moves: &[u32],
     room: &mut [u32],
@@ -77,7 +78,8 @@ fn write_play(
     let told = tell(verdict);
     let answers = played.answers;
     if !lent_right(workspace, room, told.number, answers) {
-        return say_memory(replies, at);
+        let _ = say_memory(out, replies, at);
+        unreachable!()
     }
     let others = [
         told.line,
@@ -92,6 +94,7 @@ fn write_play(
 
 // Names the outcome of the sheet with a number with memory that was filled, and writes the reply.
 fn write_outcome(
+    out: Stdout,
     text: &[u8],
     number: u32,
     room: &mut [u32],
@@ -108,7 +111,8 @@ fn write_outcome(
     let told = tell(verdict);
     let cells = named.cells;
     if !lent_right(workspace, room, told.number, cells) {
-        return say_memory(replies, at);
+        let _ = say_memory(out, replies, at);
+        unreachable!()
     }
     let others = [told.line, told.cell, told.index, narrow(cells)];
     write_line(replies, at, told.number, &others, &room[..cells])
@@ -116,6 +120,7 @@ fn write_outcome(
 
 // Fills the lent memory, and judges the sheet.
 fn answer_judge(
+    out: Stdout,
     text: &[u8],
     workspace: &mut [u32],
     all: bool,
@@ -126,11 +131,12 @@ fn answer_judge(
     ensures { Wrote (verdict_line all (length workspace.old) text.now) replies.old at replies.new result }
 {
     fill(workspace);
-    write_judge(text, workspace, all, replies, at)
+    write_judge(out, text, workspace, all, replies, at)
 }
 
 // Fills the lent memory, and plays the cells.
 fn answer_play(
+    out: Stdout,
     text: &[u8],
     moves: &[u32],
     room: &mut [u32],
@@ -143,11 +149,12 @@ fn answer_play(
 {
     fill(workspace);
     fill(room);
-    write_play(text, moves, room, workspace, replies, at)
+    write_play(out, text, moves, room, workspace, replies, at)
 }
 
 // Fills the lent memory, and names the outcome.
 fn answer_outcome(
+    out: Stdout,
     text: &[u8],
     number: u32,
     room: &mut [u32],
@@ -160,11 +167,12 @@ fn answer_outcome(
 {
     fill(workspace);
     fill(room);
-    write_outcome(text, number, room, workspace, replies, at)
+    write_outcome(out, text, number, room, workspace, replies, at)
 }
 
 // Answers a request about a sheet, with as much memory lent as it says, and returns the place after the reply.
 fn answer_lent(
+    out: Stdout,
     text: &[u8],
     request: Request,
     numbers: &[u32],
@@ -183,8 +191,9 @@ fn answer_lent(
     let work = request.work;
     let lent = request.room;
     match ask {
-        Ask::Judge { all } => answer_judge(text, &mut workspace[..work], all, replies, at),
+        Ask::Judge { all } => answer_judge(out, text, &mut workspace[..work], all, replies, at),
         Ask::Play => answer_play(
+            out,
             text,
             &numbers[3..count],
             &mut room[..lent],
@@ -193,6 +202,7 @@ fn answer_lent(
             at,
         ),
         Ask::Outcome => answer_outcome(
+            out,
             text,
             numbers[3],
             &mut room[..lent],
@@ -214,6 +224,7 @@ enum FirstReply {
 
 // Answers the request whose text begins at a place of the bytes.
 fn answer_whole(
+    out: Stdout,
     bytes: &[u8],
     text: usize,
     request: Request,
@@ -230,6 +241,7 @@ fn answer_whole(
 {
     let next = text + request.bytes;
     let end = answer_lent(
+        out,
         &bytes[text..next],
         request,
         numbers,
@@ -243,6 +255,7 @@ fn answer_whole(
 
 // Answers the first request of the bytes.
 fn answer_first(
+    out: Stdout,
     bytes: &[u8],
     numbers: &mut [u32],
     workspace: &mut [u32],
@@ -259,7 +272,7 @@ fn answer_first(
         RequestFound::Partial => FirstReply::Partial,
         RequestFound::Malformed => FirstReply::Malformed,
         RequestFound::Whole { request, text } => answer_whole(
-            bytes, text, request, numbers, workspace, room, replies, at,
+            out, bytes, text, request, numbers, workspace, room, replies, at,
         ),
     }
 }
@@ -293,6 +306,7 @@ fn so_far(taken: usize, said: usize, ending: Ending) -> Gathered
 
 // Answers the requests of the bytes, one after another.
 pub fn gather(
+    out: Stdout,
     bytes: &[u8],
     numbers: &mut [u32],
     workspace: &mut [u32],
@@ -305,7 +319,15 @@ pub fn gather(
     let mut taken = 0;
     let mut said = 0;
     while MOST_REPLY <= replies.len() - said {
-        let answer = answer_first(&bytes[taken..], numbers, workspace, room, replies, said);
+        let answer = answer_first(
+            out,
+            &bytes[taken..],
+            numbers,
+            workspace,
+            room,
+            replies,
+            said,
+        );
         match answer {
             FirstReply::Partial => return so_far(taken, said, Ending::Partial),
             FirstReply::Malformed => return so_far(taken, said, Ending::Malformed),

@@ -1,9 +1,9 @@
 // The window: the bytes of the buffer that were read and not yet taken, and the reading of more behind them.
-ghost use Rattle.std.specs.Prelude.{◌≡◌, ◌+◌, ◌<◌, ◌≤◌, length};
-ghost use Rattle.replies.specs.Window.{Within, Moved, PlaceBehind, ReadOn};
+ghost use Rattle.std.specs.Prelude.{◌≡◌, ◌+◌, ◌<◌, ◌≤◌, length, IfOk, OnErr};
+ghost use Rattle.replies.specs.Window.{Within, Moved, PlaceBehind, ReadOn, StillThere};
 
 use crate::say_request;
-use libc::STDIN_FILENO;
+use std::io::{self, Read, Stdin, Stdout};
 
 // The bytes of the buffer that were read and not yet taken: from start up to end.
 #[derive(Clone, Copy)]
@@ -53,38 +53,44 @@ fn with_place(buffer: &mut [u8], window: Window) -> Window
 
 // Reads from standard input into the buffer once, and returns how many bytes came: none where the input has ended, since the buffer has
 // a place.
-fn refill(buffer: &mut [u8]) -> usize
+fn refill(mut input: Stdin, buffer: &mut [u8]) -> io::Result<usize>
     requires { 0 < length buffer.old }
-    ensures { result ≤ length buffer.new }
+    ensures { IfOk result (λ n. n ≤ length buffer.new) }
 {
-    let got = libc::read(STDIN_FILENO, buffer);
-    io::count(got, buffer)
+    input.read(buffer)
 }
 
 // What the end of the input comes to: a request in which it ends is malformed.
-fn say_end(window: Window) {
+fn say_end(out: Stdout, window: Window) -> io::Result<()> {
     if window.start < window.end {
-        say_request();
+        return say_request(out);
     }
+    Ok(())
 }
 
 // Reads more of the input behind the window.
-pub fn read_on(buffer: &mut [u8], window: Window) -> NextWindow
+pub fn read_on(
+    input: Stdin,
+    out: Stdout,
+    buffer: &mut [u8],
+    window: Window,
+) -> io::Result<NextWindow>
     requires { (Within buffer.old window) × (window.end < window.start + length buffer.old) }
-    ensures { ReadOn buffer.old window buffer.new result }
+    ensures ok { IfOk result (λ next. ReadOn buffer.old window buffer.new next) }
+    ensures err { OnErr result (StillThere buffer.old window buffer.new) }
 {
     let ready = with_place(buffer, window);
     let start = ready.start;
     let end = ready.end;
-    let got = refill(&mut buffer[end..]);
+    let got = refill(input, &mut buffer[end..])?;
     if got == 0 {
-        say_end(ready);
-        return NextWindow::Last;
+        say_end(out, ready)?;
+        return Ok(NextWindow::Last);
     }
-    NextWindow::On {
+    Ok(NextWindow::On {
         window: Window {
             start,
             end: end + got,
         },
-    }
+    })
 }

@@ -1,0 +1,16 @@
+-- The workspace is always found as it is laid down, and the verdict's line, or all its numbers, is the reply.
+use Rattle.replies.proofs.Laid.{workspace_never}
+use Rattle.replies.proofs.Replying.{wrote_seven, wrote_all}
+use Rattle.replies.proofs.answers.write_judge.Goals as goal
+
+pub say_memory-requires : goal.say_memory-requires
+say_memory-requires c = absurd (workspace_never c.requires.0 c.judge-verdict.ensures.memory c.workspace_right.ensures.0 c.if-not-workspace_right.true)
+
+pub unreachable-requires : goal.unreachable-requires
+unreachable-requires c = workspace_never c.requires.0 c.judge-verdict.ensures.memory c.workspace_right.ensures.0 c.if-not-workspace_right.true
+
+pub returns-then-not-all : goal.returns-then-not-all
+returns-then-not-all c = wrote_seven c.judge-verdict.ensures c.if-not-all.true c.report.ensures
+
+pub returns : goal.returns
+returns c = wrote_all c.judge-verdict.ensures c.if-not-all.false c.tell_all-told.ensures c.write_line.ensures
