@@ -31,7 +31,7 @@ use Rattle.reading.specs.declared.Stones.{Stones}
 use Rattle.reading.specs.SetUp.{SetUpGot, SetUpReply}
 use Rattle.reading.proofs.Standing.{OneSame, MoveSame, moves_same}
 
--- what `readMove` gave for the root, beside what was stored
+-- what `read_move` gave for the root, beside what was stored
 module _ (b : Board) (body : Bytes) (start : code.Spot) (t : List ℕ) (ready : TreeReady b body start t) where
   whole : Stored
   whole = store_node most_depth K.First b (spot_of body start) t

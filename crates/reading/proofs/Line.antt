@@ -1,4 +1,4 @@
--- What `nodeLine` comes to at a place of the body, refusal by refusal.
+-- What `node_line` comes to at a place of the body, refusal by refusal.
 use mathlib.Core.Path.{◌≡◌, refl, sym, ap, subst, subst⁻¹, ◌∙◌}
 use Prim.Native.Nat.{ℕ, ◌+◌, ◌≤◌, ◌<◌}
 use native.Mathlib.Nat.{eq-zero-or-pos}

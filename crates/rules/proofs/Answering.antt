@@ -16,7 +16,7 @@ use Rattle.rules.proofs.Tests.{decide, both, fst, snd, left, right, cases, cond_
 use Rattle.rules.proofs.Opening.{Elusive, FairWaits, waits_in, at_in}
 use Rattle.rules.proofs.Live.{Common, without, dodge_live}
 
--- a choice that `firstUnder` finds, with what is to be said of it
+-- a choice that `first_under` finds, with what is to be said of it
 pub record Finds (which : ℕ → Moves → Bool) (test : ℕ → Waits → Bool) (P : (ws : Waits) → Choice ws → Type 0) (ws : Waits) : Type 0 where
   pub choice : Choice ws
   pub is_first : first_under which test ws ≡ some choice

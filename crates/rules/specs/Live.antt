@@ -25,7 +25,7 @@ and_this none c ws = some (c ∷ cells_of_waits ws)
 and_this (some xs) c ws = some (keep (in_move c ws) xs)
 
 -- "Call a move live if it is the root or the first under its wait, or if some cell common to all moves before it isn't in it."
--- (proofs/Live: `live-exactly`)
+-- (proofs/Live: `live_exactly`)
 unfoldable pub is_live : Shared → (c : ℕ) → Waits → Bool
 is_live none c ws = true
 is_live (some xs) c ws = any (λ x. not (in_move c ws x)) xs

@@ -10,7 +10,7 @@ use Rattle.rules.specs.declared.Board.{Board}
 use Rattle.rules.specs.declared.Player.{Player}
 
 -- "List an outcome's moves in line order": the outcomes of `specs/Outcomes` in the order of their numbers, each as the list of its
--- moves (proofs/Passing: `lists-outcomes`; proofs/LineOrder: `in-line-order`)
+-- moves (proofs/Passing: `lists_outcomes`; proofs/LineOrder: `in_line_order`)
 unfoldable mutual
   pub lists_of_waits : Waits → List (List Move)
   lists_of_waits no_waits = [] ∷ []
@@ -38,7 +38,7 @@ beginnings (m ∷ ms) = [] ∷ map (λ l. m ∷ l) (beginnings ms)
 unfoldable pub shortest : Board → Player → (put : List ℕ) → List Move → Option (List Move)
 shortest b p put l = first_that (λ k. joined b p (among (put ++ stones_of k))) (beginnings l)
 
--- in plain words (proofs/Shortest: `shortest-is-shortest`)
+-- in plain words (proofs/Shortest: `shortest_is_shortest`)
 pub record IsShortest (b : Board) (p : Player) (put : List ℕ) (l k : List Move) : Type 0 where
   pub rest : List Move
   pub is_beginning : l ≡ k ++ rest
@@ -86,7 +86,7 @@ unfoldable mutual
 unfoldable pub looked_at : Sheet → ℕ
 looked_at s = looked_in_waits s.board s.player (living s.root.waits) (λ put. 1) (at_start s)
 
--- What the walk asks of a tree: the moves of each wait stand on lines of their own (proofs/LineOrder: `unlike-lines`)
+-- What the walk asks of a tree: the moves of each wait stand on lines of their own (proofs/LineOrder: `unlike_lines`)
 unfoldable pub lines_beside : Moves → List ℕ
 lines_beside no_moves = []
 lines_beside (move line c ws ms) = line ∷ lines_beside ms

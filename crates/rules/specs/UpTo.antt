@@ -1,4 +1,4 @@
--- Document 02, C-17: which sheets get the reply that they got before boards went to 19. (What was read of them: `Entries.readUpTo`)
+-- Document 02, C-17: which sheets get the reply that they got before boards went to 19. (What was read of them: `Entries.read_up_to`)
 use Rattle.std.specs.Prelude.{◌≡◌, ℕ, ◌<◌}
 use Rattle.std.proofs.Math.Option.{some}
 use Rattle.rules.specs.Text.{Bytes}

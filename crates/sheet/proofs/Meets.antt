@@ -1,4 +1,4 @@
--- What meets the hypotheses of `covers-play`: judge accepts P1, and play is given the move 3 on it; and it accepts a sheet with set-up stones.
+-- What meets the hypotheses of `covers_play`: judge accepts P1, and play is given the move 3 on it; and it accepts a sheet with set-up stones.
 use mathlib.Core.Path.{◌≡◌, refl, sym, ◌∙◌, subst⁻¹}
 use Prim.Native.Nat.{ℕ}
 use mathlib.Core.List.{List, [], ◌∷◌}
