@@ -1,5 +1,5 @@
 // The replies: a request is answered with memory that is lent to the entries, and the requests of some bytes one after another.
-ghost use Rattle.std.specs.Prelude.{◌≡◌, ◌+◌, ◌<◌, ◌≤◌, length, take};
+ghost use Rattle.std.specs.Prelude.{◌≡◌, true, ◌+◌, ◌<◌, ◌≤◌, length, take};
 ghost use Rattle.report.specs.Writing.{Wrote};
 ghost use Rattle.requests.specs.Request.{RequestOf};
 ghost use Rattle.requests.specs.Sent.{WholeIn};
@@ -12,15 +12,17 @@ use crate::print;
 use report::{one_if, report, tell, tell_all, write_line};
 use requests::{Ask, Request, RequestFound, find};
 use sheet::{judge, outcome, play};
-use std::io::{self, Stdout};
+use std::io::Stdout;
 
-// Prints the replies that were gathered, and says that the memory that was lent is not what document 01 lays down. It is proved that it
-// never comes to that: `unreachable!()` stands behind each call.
-fn say_memory(out: Stdout, replies: &[u8], at: usize) -> io::Result<()>
-    requires { (at ≤ length replies.now) × Replies (take at replies.now) }
+// Prints the replies that were gathered, and says that the memory that was lent is not what document 01 lays down. It asks that the memory
+// is right and is called only where it is not, so it is proved that it never comes to that.
+fn say_memory(out: Stdout, right: bool, replies: &[u8], at: usize) -> usize
+    requires never { right ≡ true }
+    requires said { (at ≤ length replies.now) × Replies (take at replies.now) }
 {
-    print(out, replies, at)?;
-    out.write_all(b"memory\n")
+    let _ = print(out, replies, at);
+    let _ = out.write_all(b"memory\n");
+    0
 }
 
 // The most bytes of a reply's line: seven numbers and a thousand more, each of ten digits and followed by a tab or the line feed.
@@ -47,9 +49,9 @@ fn write_judge(
     ensures { Wrote (verdict_line all (length workspace.old) text.now) replies.old at replies.new result }
 {
     let verdict = judge(text, workspace);
-    if !workspace_right(workspace) {
-        let _ = say_memory(out, replies, at);
-        unreachable!()
+    let right = workspace_right(workspace);
+    if !right {
+        return say_memory(out, right, replies, at);
     }
     if !all {
         return report(replies, at, verdict);
@@ -77,9 +79,9 @@ fn write_play(
     let verdict = played.verdict;
     let told = tell(verdict);
     let answers = played.answers;
-    if !lent_right(workspace, room, told.number, answers) {
-        let _ = say_memory(out, replies, at);
-        unreachable!()
+    let right = lent_right(workspace, room, told.number, answers);
+    if !right {
+        return say_memory(out, right, replies, at);
     }
     let others = [
         told.line,
@@ -110,9 +112,9 @@ fn write_outcome(
     let verdict = named.verdict;
     let told = tell(verdict);
     let cells = named.cells;
-    if !lent_right(workspace, room, told.number, cells) {
-        let _ = say_memory(out, replies, at);
-        unreachable!()
+    let right = lent_right(workspace, room, told.number, cells);
+    if !right {
+        return say_memory(out, right, replies, at);
     }
     let others = [told.line, told.cell, told.index, narrow(cells)];
     write_line(replies, at, told.number, &others, &room[..cells])

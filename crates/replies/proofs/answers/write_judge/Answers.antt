@@ -4,10 +4,10 @@ use Rattle.replies.proofs.Replying.{wrote_seven, wrote_all}
 use Rattle.replies.proofs.answers.write_judge.Goals as goal
 
 pub say_memory-requires : goal.say_memory-requires
-say_memory-requires c = absurd (workspace_never c.requires.0 c.judge-verdict.ensures.memory c.workspace_right.ensures.0 c.if-not-workspace_right.true)
+say_memory-requires c = absurd (workspace_never c.requires.0 c.judge-verdict.ensures.memory c.workspace_right-right.ensures.0 c.if-not-right.true)
 
-pub unreachable-requires : goal.unreachable-requires
-unreachable-requires c = workspace_never c.requires.0 c.judge-verdict.ensures.memory c.workspace_right.ensures.0 c.if-not-workspace_right.true
+pub returns-then-not-right : goal.returns-then-not-right
+returns-then-not-right c = absurd (workspace_never c.requires.0 c.judge-verdict.ensures.memory c.workspace_right-right.ensures.0 c.if-not-right.true)
 
 pub returns-then-not-all : goal.returns-then-not-all
 returns-then-not-all c = wrote_seven c.judge-verdict.ensures c.if-not-all.true c.report.ensures

@@ -7,10 +7,10 @@ use Rattle.replies.proofs.Replying.{wrote_play}
 use Rattle.replies.proofs.answers.write_play.Goals as goal
 
 pub say_memory-requires : goal.say_memory-requires
-say_memory-requires c = absurd (play_never _ c.requires.filled.1 c.requires.filled.2 c.play-played.ensures (ap (λ (z : Told). z.number) c.tell-told.ensures) c.lent_right.ensures.0 c.if-not-lent_right.true)
+say_memory-requires c = absurd (play_never _ c.requires.filled.1 c.requires.filled.2 c.play-played.ensures (ap (λ (z : Told). z.number) c.tell-told.ensures) c.lent_right-right.ensures.0 c.if-not-right.true)
 
-pub unreachable-requires : goal.unreachable-requires
-unreachable-requires c = play_never _ c.requires.filled.1 c.requires.filled.2 c.play-played.ensures (ap (λ (z : Told). z.number) c.tell-told.ensures) c.lent_right.ensures.0 c.if-not-lent_right.true
+pub returns-then-not-right : goal.returns-then-not-right
+returns-then-not-right c = absurd (play_never _ c.requires.filled.1 c.requires.filled.2 c.play-played.ensures (ap (λ (z : Told). z.number) c.tell-told.ensures) c.lent_right-right.ensures.0 c.if-not-right.true)
 
 pub narrow-requires : goal.narrow-requires
 narrow-requires c = play_few_places c.play-played.ensures
