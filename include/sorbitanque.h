@@ -1,4 +1,4 @@
-/* sorbitanque: judges Hex strategy sheets, plays them and lists their outcomes. Link libsorbitanque.a (`rt staticlib sorbitanque`). */
+/* sorbitanque: judges Hex strategy sheets, plays them and lists their outcomes. Link libsorbitanque.a (`./build sorbitanque`). */
 #ifndef SORBITANQUE_H
 #define SORBITANQUE_H
 

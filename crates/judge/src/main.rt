@@ -3,7 +3,7 @@
 
 #![tactic(auto)]
 
-ghost use Rattle.std.specs.Prelude.{◌≡◌, ◌≤◌, length, IfOk};
+ghost use Rattle.std.specs.Prelude.{◌≡◌, ◌≤◌, length, IfOk, OnErr};
 ghost use Rattle.rules.specs.Sizes.{least_workspace};
 ghost use Rattle.report.specs.Line.{judge_line};
 ghost use Rattle.report.specs.Writing.{Wrote};
@@ -36,6 +36,7 @@ fn print_judge(
     room: &mut [u8],
 ) -> io::Result<()>
     requires { (length workspace.old ≡ least_workspace) × (77 ≤ length room.old) }
+    ensures err { OnErr result ((length workspace.new ≡ length workspace.old) × (length room.new ≡ length room.old)) }
 {
     let end = write_judge(text, workspace, room);
     print(out, text, &room[..end])
@@ -43,7 +44,8 @@ fn print_judge(
 
 // Reads until the room is full or the input ends, and returns how many bytes it put at the start.
 fn read_full(input: &mut impl Read, room: &mut [u8]) -> io::Result<usize>
-    ensures { IfOk result (λ n. n ≤ length room.new) }
+    ensures ok { IfOk result (λ n. n ≤ length room.new) }
+    ensures err { OnErr result (length room.new ≡ length room.old) }
 {
     let mut done = 0;
     while done < room.len() {

@@ -5,7 +5,7 @@ use native.Mathlib.Omega.{arith}
 use mathlib.Core.List.{List, [], ◌∷◌}
 use lib.ListN.{length, drop, drop_of_length-le}
 use lib.Seq.{drop-cons}
-use Rattle.rules.specs.Sizes.{most_depth}
+use Rattle.rules.specs.Sizes.{most_depth, least_workspace}
 use Rattle.rules.specs.Text.{Bytes, ◌or_else◌}
 use Rattle.rules.specs.Lines.{move_line, dash_line}
 use Rattle.rules.specs.Tree.{Move, Stone}
@@ -20,16 +20,22 @@ use Rattle.nodes.specs.Nodes as N
 use Rattle.nodes.specs.Nodes.{nodes_of_waits}
 use Rattle.nodes.specs.Table.{Row, At}
 use Rattle.rules.specs.declared.LineKind.TheVariants as K
-use Rattle.reading.specs.Spots.{spot_of}
+use Rattle.reading.specs.Spots.{spot_of, Ready}
 use Rattle.reading.specs.Storing.{Stored, store_node}
-use Rattle.reading.specs.Kept.{read_seen, ReadKept, TreeReady, tree_from, TreeReply, TreeKept, Unread, BodyReply, stored_after, BodyKept}
+use Rattle.reading.specs.Kept.{read_seen, ReadyAfter, ReadKept, TreeReady, tree_from, TreeReply, TreeKept, BodyReady, Unread, BodyReply, stored_after, BodyKept}
 use Rattle.reading.specs.declared.Spot as code
 use Rattle.reading.specs.declared.Read.{Read}
+use Rattle.reading.specs.declared.Read.TheVariants as Read
 use Rattle.reading.specs.declared.BodyRead.{BodyRead}
 use Rattle.reading.specs.declared.TreeRead.{TreeRead}
+use Rattle.reading.specs.declared.TreeRead.TheVariants as TreeRead
 use Rattle.reading.specs.declared.Stones.{Stones}
 use Rattle.reading.specs.SetUp.{SetUpGot, SetUpReply}
 use Rattle.reading.proofs.Standing.{OneSame, MoveSame, moves_same}
+
+pub body_ready : (b : Board) (body : Bytes) (t : List ℕ) → BodyReady b body t → Ready b body (record { at = 0; line = 2; nodes = 0 })
+body_ready b body t r =
+    record { fits = r.fits; short = r.short; inside = omega arith; line_few = omega arith; nodes_few = omega arith }
 
 -- what `read_move` gave for the root, beside what was stored
 module _ (b : Board) (body : Bytes) (start : code.Spot) (t : List ℕ) (ready : TreeReady b body start t) where
@@ -82,6 +88,9 @@ module _ (b : Board) (body : Bytes) (start : code.Spot) (t : List ℕ) (ready : 
         record { reply_is = λ p cs. rw (root_refused v (sym k.reply_is ∙ ap (read_seen body) e)); table_is = k.table_is }
 
     module _ (u : code.Spot) (e : r ≡ Read.Got u) where
+      pub kept_ready : Ready b body u
+      kept_ready = subst (ReadyAfter b body) e k.ready
+
       read : (m : Move) × (root_read ≡ got (m, spot_of body u)) × At (Row whole.table) N.a_move 0 m.cell (nodes_of_waits m.waits)
       unfolding whole
       read = root_got (spot_of body u) (sym k.reply_is ∙ ap (read_seen body) e)
@@ -128,6 +137,9 @@ module _ (b : Board) (body : Bytes) (t : List ℕ) where
   module _ (read : Read) (stones : Stones) (start : code.Spot) (k : SetUpReply b body read stones) (e : read ≡ Read.Got start) where
     set_up : SetUpGot b body start stones
     set_up = subst (λ (z : Read). SetUpReply b body z stones) e k
+
+    pub tree_ready : length t ≡ least_workspace → TreeReady b body start t
+    tree_ready long = record { ready = set_up.ready; no_nodes_lem = set_up.no_nodes_lem; long = long }
 
     spot_is : spot_of body start ≡ record { text = drop start.at body; line = length set_up.set_up + 2; nodes = 0 }
     spot_is =

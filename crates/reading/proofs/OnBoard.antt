@@ -1,10 +1,11 @@
 -- A cell's number on the board, from the tests that the code makes.
 use mathlib.Core.Path.{◌≡◌, refl}
-use Prim.Native.Nat.{ℕ, ◌≤◌}
+use Prim.Native.Nat.{ℕ, ◌*◌, ◌-◌, ◌≤◌}
 use mathlib.Core.Bool.{Bool, true, false, ◌&&◌}
 use mathlib.Core.Option.{Option, some}
 use lib.Dec.{T, leb, leb→le, le→leb}
 use native.Mathlib.Omega.{arith}
+use native.Mathlib.Nat.{mul-le-mul}
 use Rattle.rules.specs.Board.{on_board, cell_at}
 use Rattle.rules.specs.Lines.{Place}
 use Rattle.rules.specs.Reading.{within, cell_of}
@@ -47,6 +48,10 @@ module _ (b : Board) (c r : ℕ) where
   pub on_board_lem : Inside b c r → On (cell_at b c r) ≡ numbered b (some (record { column = c; row = r }))
   unfolding within cell_of
   on_board_lem i = rw (true_of (on_board b c r) (of_inside i))
+
+-- a small board's cells have small numbers
+pub small_product : (a b : ℕ) → a ≤ 255 → b ≤ 255 → (a - 1) * b ≤ 254 * 255
+small_product a b h k = mul-le-mul {n₁ = a - 1} {m₁ = b} {n₂ = 254} {m₂ = 255} (omega arith) k
 
 -- what a cell's number says of the cell that a line names
 pub record NumberedOn (b : Board) (p : Option Place) (n : ℕ) : Type 0 where

@@ -76,6 +76,7 @@ fn answer_all(
 ) -> io::Result<()>
     requires long { 69974 ≤ length buffer.old }
     requires lent { (length numbers.old ≡ 403) × (length workspace.old ≡ 9000) × (length room.old ≡ 1000) }
+    ensures err { OnErr result ((length buffer.new ≡ length buffer.old) × (length replies.new ≡ length replies.old)) }
 {
     let mut window = Window { start: 0, end: 0 };
     let mut turns = u64::MAX;

@@ -55,7 +55,8 @@ fn with_place(buffer: &mut [u8], window: Window) -> Window
 // a place.
 fn refill(mut input: Stdin, buffer: &mut [u8]) -> io::Result<usize>
     requires { 0 < length buffer.old }
-    ensures { IfOk result (λ n. n ≤ length buffer.new) }
+    ensures ok { IfOk result (λ n. n ≤ length buffer.new) }
+    ensures err { OnErr result (length buffer.new ≡ length buffer.old) }
 {
     input.read(buffer)
 }

@@ -9,4 +9,4 @@ pub returns-in_err-say_end-clause-err : goal.returns-in_err-say_end-clause-err
 returns-in_err-say_end-clause-err c = on_err _ (still_there c.refill.new.buffer _ c.with_place-ready.ensures)
 
 pub returns-clause-ok : goal.returns-clause-ok
-returns-clause-ok c = read_behind c.refill.new.buffer _ c.in_ok-got.got c.with_place-ready.ensures c.in_ok-got.ensures
+returns-clause-ok c = read_behind c.refill.new.buffer _ c.in_ok-got.got c.with_place-ready.ensures c.in_ok-got.ensures.ok
