@@ -19,6 +19,7 @@ use std::io::Stdout;
 fn say_memory(out: Stdout, right: bool, replies: &[u8], at: usize) -> usize
     requires never { right ≡ true }
     requires said { (at ≤ length replies.now) × Replies (take at replies.now) }
+    ensures { result ≡ 0 }
 {
     let _ = print(out, replies, at);
     let _ = out.write_all(b"memory\n");
