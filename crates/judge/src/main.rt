@@ -3,7 +3,7 @@
 
 #![tactic(auto)]
 
-ghost use Rattle.std.specs.Prelude.{◌≡◌, ◌≤◌, length, IfOk, OnErr};
+ghost use Rattle.std.specs.Prelude.{◌≡◌, ℕ, ◌≤◌, length, IfOk, OnErr};
 ghost use Rattle.rules.specs.Sizes.{least_workspace};
 ghost use Rattle.report.specs.Line.{judge_line};
 ghost use Rattle.report.specs.Writing.{Wrote};
@@ -28,7 +28,7 @@ fn print(out: &impl Print, text: &[u8], line: &[u8]) -> io::Result<()>
     out.write_all(line)
 }
 
-// Judges the sheet and prints its line.
+// Judges the sheet and prints its line, which stands in the room then, printed or not.
 fn print_judge(
     out: &impl Print,
     text: &[u8],
@@ -36,7 +36,7 @@ fn print_judge(
     room: &mut [u8],
 ) -> io::Result<()>
     requires { (length workspace.old ≡ least_workspace) × (77 ≤ length room.old) }
-    ensures err { OnErr result ((length workspace.new ≡ length workspace.old) × (length room.new ≡ length room.old)) }
+    ensures { (end : ℕ) × Wrote (judge_line least_workspace text.now) room.old 0 room.new end }
 {
     let end = write_judge(text, workspace, room);
     print(out, text, &room[..end])

@@ -13,11 +13,11 @@ use borrow.Author.Tests.{eq-eqb, eqb-true}
 use Rattle.replies.specs.Lent.{AllAre}
 
 -- no bit is another only where the numbers are equal
-xor-none : (a b : ℕ) → bit_xor a b ≡ 0 → a ≡ b
-xor-none a b e = omega (arith, e, xor_add_and a b, and_le_l a b, and_le_r a b)
+xor_none : (a b : ℕ) → bit_xor a b ≡ 0 → a ≡ b
+xor_none a b e = omega (arith, e, xor_add_and a b, and_le_l a b, and_le_r a b)
 
-or-none : (a b : ℕ) → bit_or a b ≡ 0 → (a ≡ 0) × (b ≡ 0)
-or-none a b e = (omega (arith, e, or_add_and a b, and_le_l a b, and_le_r a b), omega (arith, e, or_add_and a b, and_le_l a b, and_le_r a b))
+or_none : (a b : ℕ) → bit_or a b ≡ 0 → (a ≡ 0) × (b ≡ 0)
+or_none a b e = (omega (arith, e, or_add_and a b, and_le_l a b, and_le_r a b), omega (arith, e, or_add_and a b, and_le_l a b, and_le_r a b))
 
 pub record SoFar (v : ℕ) (l : List ℕ) (from to i others : ℕ) : Type 0 where
   pub on : from ≤ i
@@ -32,8 +32,8 @@ so_far_more {v} {l} {from} {i = i} {others} s h =
     record {
       on = omega (arith, s.on);
       found = λ e.
-          let z = or-none others (bit_xor (get_or l i 0) v) e in
-          one_more (s.found z.0) (xor-none (get_or l i 0) v z.1);
+          let z = or_none others (bit_xor (get_or l i 0) v) e in
+          one_more (s.found z.0) (xor_none (get_or l i 0) v z.1);
       none = λ a. rw (s.none a, a.each i s.on h, xor_self v);
     }
   where

@@ -1,3 +1,4 @@
+-- The window lies in the buffer, and the turns run out.
 use Rattle.replies.specs.Window.{Within}
 use Rattle.replies.proofs.answer_all.Given as goal
 

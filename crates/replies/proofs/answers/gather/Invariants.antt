@@ -1,3 +1,4 @@
+-- What was taken are whole requests, and what was said are their replies.
 use Rattle.std.proofs.Common.{◌-◌, length}
 use Rattle.replies.proofs.Gathering.{GatheredSoFar}
 use Rattle.replies.proofs.answers.gather.Given as goal

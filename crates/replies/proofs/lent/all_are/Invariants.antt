@@ -1,3 +1,4 @@
+-- The numbers up to here are the value exactly where no bit was another.
 use Rattle.std.proofs.Common.{◌-◌}
 use Rattle.replies.proofs.Looking.{SoFar}
 use Rattle.replies.proofs.lent.all_are.Given as goal

@@ -1,3 +1,4 @@
+-- The numbers up to here are the filling.
 use Rattle.std.proofs.Common.{length, ◌-◌}
 use lib.ListN.{replicate}
 use Rattle.loading.specs.Copied.{Copied}

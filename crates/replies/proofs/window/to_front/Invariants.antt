@@ -1,3 +1,4 @@
+-- The first bytes of the window, up to here, stand at the front.
 use Rattle.std.proofs.Common.{◌-◌, ◌+◌, ◌≤◌, length}
 use lib.ListN.{drop}
 use Rattle.loading.specs.Copied.{Copied}
