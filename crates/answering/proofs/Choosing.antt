@@ -195,10 +195,3 @@ module _ (base : ℕ) where
   -- then a wait is open
   pub free_waiting : {b : Board} {t : List ℕ} {x : ℕ} {ws : Waits} {k : Choice ws} → Asked base b t x ws k → (f : Free ws k) → Opens base b t (wait f.line f.moves f.others)
   free_waiting {b} {t} a f = subst (λ (us : Waits). Opens base b t us) f.are a.are_open
-
-  -- the first open wait is in the table
-  pub open_line : {b : Board} {t : List ℕ} {line : ℕ} {ms : Moves} {ws : Waits} → Opens base b t (wait line ms ws) → 4 * (line - base) + 3 < length t
-  open_line o = go o.marks
-    where
-      go : {b : Board} {t : List ℕ} {n i line : ℕ} {ms : Moves} {ws : Waits} → Open base b t n i (wait line ms ws) → 4 * (line - base) + 3 < length t
-      go (open_at j q c o r) = omega (arith, o.line_is, o.at.here.row.room)

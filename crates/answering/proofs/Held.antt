@@ -21,7 +21,8 @@ use Rattle.nodes.proofs.Table.{each_both, stand_of_weighed}
 use Rattle.nodes.proofs.Trees.{root_on_board}
 use Rattle.answering.specs.Playing.{Playable, shown, as_played, PlaysMoves}
 use Rattle.answering.specs.declared.PlayedOut.{PlayedOut}
-use Rattle.answering.specs.declared.PlayedOut.TheVariants.{Stopped, Played}
+use Rattle.answering.specs.declared.Stopped.{Stopped}
+use Rattle.std.specs.Prelude.{Result, Ok, Err}
 use Rattle.answering.proofs.Playing.{playable_same}
 use Rattle.answering.proofs.Rounds.{reached_played, rounds_answers}
 
@@ -43,17 +44,17 @@ held_playable {t} {b} {p} {s} w text h e a =
       };
     }
 
-module _ {s : Sheet} {t moves room : List ℕ} {r : PlayedOut} {t' room' : List ℕ} (k : PlaysMoves s t moves room r t' room') where
+module _ {s : Sheet} {t moves room : List ℕ} {r : Result PlayedOut Stopped} {t' room' : List ℕ} (k : PlaysMoves s t moves room r t' room') where
   -- it can be played again on the table as it is left
   pub play_again : {b : Board} {p : Player} → Playable t b p s → Playable t' b p s
   play_again h = playable_same k.rows.rows h
 
   -- the two replies, by the rounds
-  pub reply_stopped : (v : Verdict) (place : ℕ) → rounds s (start s) 1 moves ≡ stopped v place → r ≡ Stopped v place
+  pub reply_stopped : (v : Verdict) (place : ℕ) → rounds s (start s) 1 moves ≡ stopped v place → r ≡ Err (record { verdict = v; place = place })
   unfolding shown
   reply_stopped v place e = k.reply ∙ ap (shown s) e
 
-  pub reply_played : (g : Game) → rounds s (start s) 1 moves ≡ played g → r ≡ Played (length g.answers) (is_over s g)
+  pub reply_played : (g : Game) → rounds s (start s) 1 moves ≡ played g → r ≡ Ok (record { answers = length g.answers; over = is_over s g })
   unfolding shown
   reply_played g e = k.reply ∙ ap (shown s) e
 
@@ -62,7 +63,7 @@ module _ {s : Sheet} {t moves room : List ℕ} {r : PlayedOut} {t' room' : List 
   room_written g f = k.answers ∙ ap (λ (h : Game). room_after h.answers room) (reached_played s moves (start s) g 1 f)
 
   -- which of the two it was
-  pub was_played : (n : ℕ) (over : Bool) → r ≡ Played n over → (g : Game) × (rounds s (start s) 1 moves ≡ played g)
+  pub was_played : (n : ℕ) (over : Bool) → r ≡ Ok (record { answers = n; over = over }) → (g : Game) × (rounds s (start s) 1 moves ≡ played g)
   unfolding shown
   was_played n over e = go (rounds s (start s) 1 moves) refl
     where
@@ -70,12 +71,14 @@ module _ {s : Sheet} {t moves room : List ℕ} {r : PlayedOut} {t' room' : List 
       go (stopped v place) f = let z : ◌≡◌ {A = ℕ} 0 1 = cc (reply_stopped v place f) in absurd (omega arith)
       go (played g) f = (g, f)
 
-  pub was_stopped : (v : Verdict) (place : ℕ) → r ≡ Stopped v place → rounds s (start s) 1 moves ≡ stopped v place
+  pub was_stopped : (v : Verdict) (place : ℕ) → r ≡ Err (record { verdict = v; place = place }) → rounds s (start s) 1 moves ≡ stopped v place
   unfolding shown
   was_stopped v place e = go (rounds s (start s) 1 moves) refl
     where
       go : (a : Rounds) → rounds s (start s) 1 moves ≡ a → rounds s (start s) 1 moves ≡ stopped v place
-      go (stopped u at) f = f ∙ cc (reply_stopped u at f)
+      go (stopped u at) f =
+          let same : ◌≡◌ {A = Stopped} (record { verdict = u; place = at }) (record { verdict = v; place = place }) = cc (reply_stopped u at f) in
+          f ∙ ap (λ (z : Stopped). stopped z.verdict z.place) same
       go (played g) f = let z : ◌≡◌ {A = ℕ} 0 1 = cc (reply_played g f) in absurd (omega arith)
 
   -- what the entry replies
@@ -88,10 +91,11 @@ module _ {s : Sheet} {t moves room : List ℕ} {r : PlayedOut} {t' room' : List 
       go (played g) = refl
 
   -- where all is played out: so many answers, which stand first in the room, and no more than moves
-  pub entry_played : (n : ℕ) (over : Bool) → r ≡ Played n over
+  pub entry_played : (n : ℕ) (over : Bool) → r ≡ Ok (record { answers = n; over = over })
       → (n ≡ length (played_out s (rounds s (start s) 1 moves)).answers) × (room' ≡ room_after (played_out s (rounds s (start s) 1 moves)).answers room) × (n ≤ length moves)
   unfolding played_out start
   entry_played n over e =
       let g = was_played n over e in
-      let many : n ≡ length g.0.answers = cc (e, reply_played g.0 g.1) in
+      let same : ◌≡◌ {A = PlayedOut} (record { answers = n; over = over }) (record { answers = length g.0.answers; over = is_over s g.0 }) = cc (e, reply_played g.0 g.1) in
+      let many : n ≡ length g.0.answers = ap (λ (z : PlayedOut). z.answers) same in
       rw g.1 (many, room_written g.0 g.1, omega (arith, rounds_answers s moves (start s) g.0 1 g.1))

@@ -15,7 +15,7 @@ use Rattle.rules.proofs.Tests.{true_of, false_of}
 use Rattle.nodes.specs.Nodes.{Kind, a_wait, a_move, Nodes, size, nodes_of_waits, nodes_of_moves}
 use Rattle.nodes.specs.Table.{cell_in, end_in, Each, first, At}
 use Rattle.nodes.proofs.Table.{node_end}
-use Rattle.answering.specs.Rows.{EndedOn}
+use Rattle.answering.specs.Rows.{Within, EndedOn}
 use Rattle.answering.specs.Choosing.{cells_from, holds_at}
 use Rattle.answering.proofs.Rows.{at_row}
 
@@ -74,7 +74,7 @@ module _ {b : Board} {t : List ℕ} (x : ℕ) (p : 1 ≤ x) where
   move_held {i} {c} ws n = own_held n ∙ ap (λ (y : Bool). eqb x c || y) (waits_named ws n.below)
 
 -- the nodes that a cell is looked for at stand in the table
-pub named_room : {b : Board} {t : List ℕ} {k : Kind} {i c : ℕ} {u : Nodes} → At (EndedOn b t) k i c u → (4 * i + 3 < length t) × (4 * end_in t i ≤ length t)
+pub named_room : {b : Board} {t : List ℕ} {k : Kind} {i c : ℕ} {u : Nodes} → At (EndedOn b t) k i c u → Within t i
 named_room n = (n.here.row.room, omega (arith, n.here.end, node_end (at_row n)))
 
 -- the search: x is named at node i or under it exactly if it is at one of the nodes left, which are from j up to the end

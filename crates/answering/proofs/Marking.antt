@@ -1,15 +1,15 @@
 -- The loop that marks the waits right under a move.
-use mathlib.Core.Path.{◌≡◌, refl, ◌∙◌}
+use mathlib.Core.Path.{◌≡◌, ◌∙◌}
 use Prim.Native.Nat.{ℕ, ◌+◌, ◌*◌, ◌<◌, ◌≤◌}
 use native.Mathlib.Omega.{arith}
 use mathlib.Core.List.{List}
 use lib.ListN.{length}
 use Rattle.nodes.specs.Nodes.{Nodes, a_move, size}
-use Rattle.nodes.specs.Table.{under_in, end_in, nothing, first, SomeNode, At}
+use Rattle.nodes.specs.Table.{end_in, nothing, first, SomeNode, At}
 use Rattle.nodes.proofs.Table.{each_map, alone_at, stand_end}
-use Rattle.nodes.proofs.Walk.{Walking, walking_starts, walking_child, walking_again, walking_ends}
-use Rattle.answering.specs.Rows.{Ended, SameRows, with_mark, marked}
-use Rattle.answering.proofs.Rows.{same_self, same_twice, mark_rows, ended_same}
+use Rattle.nodes.proofs.Walk.{Walking, walking_child, walking_again, walking_ends}
+use Rattle.answering.specs.Rows.{Within, Ended, SameRows, with_mark, marked}
+use Rattle.answering.proofs.Rows.{same_twice, mark_rows, ended_same}
 
 -- marking what is left gives the table with all marked
 pub record ToMark (t₀ t : List ℕ) (i next : ℕ) (n rest : Nodes) : Type 0 where
@@ -19,13 +19,6 @@ pub record ToMark (t₀ t : List ℕ) (i next : ℕ) (n rest : Nodes) : Type 0 w
 pub record Marking (t₀ t : List ℕ) (i under next j : ℕ) : Type 0 where
   pub rows : SameRows t₀ t
   pub walk : Walking (Ended t₀) (Ended t) a_move i under next j (ToMark t₀ t i next)
-
-pub marking_starts : {t : List ℕ} {i under : ℕ} → under ≡ under_in t i → Marking t t i under (i + 1) 0
-marking_starts {t} e =
-    record {
-      rows = same_self t;
-      walk = walking_starts (λ c u r. omega (arith, r.row.under)) (λ u. record { same = refl });
-    }
 
 module _ {t₀ t : List ℕ} {i under next j : ℕ} (w : Marking t₀ t i under next j) where
   pub marking_room : j < under → SomeNode (Ended t₀) a_move i → 4 * next + 3 < length t
@@ -58,7 +51,7 @@ module _ {t₀ t : List ℕ} {i under next j : ℕ} (w : Marking t₀ t i under 
   marking_done p c u n = (walking_ends w.walk p c u n).1.same
 
 -- the root and all under it are in the table
-pub root_room : {t : List ℕ} → SomeNode (Ended t) a_move 0 → (3 < length t) × (4 * end_in t 0 ≤ length t)
+pub root_room : {t : List ℕ} → SomeNode (Ended t) a_move 0 → Within t 0
 root_room s =
     let n = s.at in
     let e = stand_end (omega (arith, n.here.row.room)) (each_map (λ k j c u from to r. r.row) n.below) in

@@ -1,6 +1,6 @@
 -- Laws of the open waits: a walk over the nodes finds them in the order of their lines, and a choice closes one and opens those under its move.
 use mathlib.Core.Path.{◌≡◌, refl, ◌∙◌, subst}
-use mathlib.Core.Logic.{◌⊎◌, inl, inr}
+use mathlib.Core.Logic.{◌⊎◌, ◌≢◌, inl, inr}
 use Prim.Native.Nat.{ℕ, ◌+◌, ◌-◌, ◌*◌, ◌<◌, ◌≤◌}
 use native.Mathlib.Nat.{eq-zero-or-pos}
 use native.Mathlib.Omega.{arith}
@@ -18,14 +18,15 @@ use Rattle.answering.specs.Choosing.{node_there, wait_node, move_node}
 use Rattle.answering.proofs.Rows.{same_twice, mark_rows, mark_there, mark_elsewhere, each_same, at_same, clear_within, clear_same, clear_none, clear_join, marked_rows, marked_before, marked_after}
 
 module _ (base : ℕ) where
-  -- the walk: the node at i is not an open wait
-  pub open_skip : {b : Board} {t : List ℕ} {n i : ℕ} {ws : Waits} → i < n → (count_in t i ≡ 1 → ⊥) → Open base b t n i ws → Open base b t n (i + 1) ws
-  open_skip {n = n} {i = i} p m (none_open q c) = none_open {i = i + 1} (omega arith) (clear_within (i + 1) n (omega arith) (omega arith) c)
-  open_skip {b} {t} {n} {i} p m (open_at {line = line} {ms = ms} {ws = ws} j q c o r) = go (eq-zero-or-pos (j - i))
+  -- the walk: no node from i up to m is an open wait
+  pub open_pass : {b : Board} {t : List ℕ} {n i : ℕ} {ws : Waits} (m : ℕ) → i ≤ m → m ≤ n → ((k : ℕ) → i ≤ k → k < m → count_in t k ≢ 1) → Open base b t n i ws
+      → Open base b t n m ws
+  open_pass {n = n} m p q f (none_open r c) = none_open {i = m} q (clear_within m n p (omega arith) c)
+  open_pass {b} {t} {n} m p q f (open_at {line = line} {ms = ms} {ws = ws} j r c o w) = go (eq-zero-or-pos (m - j))
     where
-      go : (j - i ≡ 0) ⊎ (0 < j - i) → Open base b t n (i + 1) (wait line ms ws)
-      go (inl e) = let f : j ≡ i = omega arith in absurd (m (subst (λ (z : ℕ). count_in t z ≡ 1) f o.mark))
-      go (inr l) = open_at {i = i + 1} j (omega arith) (clear_within (i + 1) j (omega arith) (omega arith) c) o r
+      go : (m - j ≡ 0) ⊎ (0 < m - j) → Open base b t n m (wait line ms ws)
+      go (inl e) = open_at {i = m} j (omega arith) (clear_within m j p (omega arith) c) o w
+      go (inr l) = absurd (f j r (omega arith) o.mark)
 
   -- the node at i is one
   pub record First (b : Board) (t : List ℕ) (n i : ℕ) (ws : Waits) : Type 0 where
@@ -57,9 +58,6 @@ module _ (base : ℕ) where
   pub open_end : {b : Board} {t : List ℕ} {n i : ℕ} {ws : Waits} → Open base b t n i ws → i ≤ n
   open_end (none_open q c) = q
   open_end (open_at j q c o r) = omega (arith, open_end r)
-
-  pub open_some : {b : Board} {t : List ℕ} {n i line : ℕ} {ms : Moves} {ws : Waits} → Open base b t n i (wait line ms ws) → i < n
-  open_some (open_at j q c o r) = omega (arith, open_end r)
 
   -- they depend on the rows and on the marks from i on
   pub wait_same : {b : Board} {t v : List ℕ} {j line : ℕ} {ms : Moves} → SameRows t v

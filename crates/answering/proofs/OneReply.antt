@@ -14,7 +14,9 @@ use Rattle.nodes.specs.Table.{end_in, count_in}
 use Rattle.answering.specs.Rows.{SameRows, Remarked, Clear}
 use Rattle.answering.specs.Marks.{OpenWait, Open, none_open, open_at, Opens}
 use Rattle.answering.specs.Playing.{PlaysMoves}
+use Rattle.std.specs.Prelude.{Result}
 use Rattle.answering.specs.declared.PlayedOut.{PlayedOut}
+use Rattle.answering.specs.declared.Stopped.{Stopped}
 use Rattle.answering.proofs.Rows.{same_back, same_twice}
 
 -- two tables are the same where their numbers are, node by node
@@ -51,7 +53,7 @@ same_marks {n₁} {b} {t} {v} {n} {i} (wait line ms ws) (open_at j q c o r) (ope
         (eq-zero-or-pos (j - m)))
         (eq-zero-or-pos (j + 1 + size (nodes_of_moves ms) - m))
 
-pub record OneReply (r r₂ : PlayedOut) (t t₂ room room₂ : List ℕ) : Type 0 where
+pub record OneReply (r r₂ : Result PlayedOut Stopped) (t t₂ room room₂ : List ℕ) : Type 0 where
   pub same_reply : r ≡ r₂
   pub same_table : t ≡ t₂
   pub same_room : room ≡ room₂
@@ -71,7 +73,7 @@ same_open {n₁} {b} {t} {u} {v} {ws} p q o w = same_tables u v (same_twice (sam
         let e : end_in v 0 ≡ end_in u 0 = q.rows.end 0 ∙ sym (p.rows.end 0) in
         same_marks ws o.marks (subst (λ (n : ℕ). Open n₁ b v n 1 ws) e w.marks) i lo (omega (arith, p.rows.end 0))
 
-pub one_reply : {s : Sheet} {t moves room : List ℕ} {r r₂ : PlayedOut} {t' t₂ room' room₂ : List ℕ}
+pub one_reply : {s : Sheet} {t moves room : List ℕ} {r r₂ : Result PlayedOut Stopped} {t' t₂ room' room₂ : List ℕ}
     → PlaysMoves s t moves room r t' room' → PlaysMoves s t moves room r₂ t₂ room₂ → OneReply r r₂ t' t₂ room' room₂
 one_reply p q =
     record {

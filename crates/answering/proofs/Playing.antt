@@ -1,7 +1,7 @@
 -- The loop over the moves: the game so far, and what is left of the rounds.
 use mathlib.Core.Path.{◌≡◌, refl, sym, ap, ap₂, ◌∙◌, subst}
 use mathlib.Core.Bool.{Bool, not, ◌||◌, or_comm, or-false}
-use Prim.Native.Nat.{ℕ, suc, ◌+◌, ◌<◌, ◌≤◌}
+use Prim.Native.Nat.{ℕ, suc, ◌+◌, ◌<◌}
 use native.Mathlib.Numerals.{add-one}
 use native.Mathlib.Omega.{arith}
 use mathlib.Core.List.{List, [], ◌∷◌, ◌++◌, append_assoc, append-nil}
@@ -27,8 +27,7 @@ use Rattle.rules.proofs.Lists.{among_append}
 use Rattle.rules.proofs.Joining.{joined_same}
 use Rattle.rules.proofs.Given.{accepted_exactly}
 use Rattle.rules.proofs.Cover.{mine_next, demand_3}
-use Rattle.cells.proofs.Places.{size_fits}
-use Rattle.cells.specs.Cells.{held, Fits}
+use Rattle.cells.specs.Cells.{held}
 use Rattle.nodes.specs.Nodes.{a_move, size, nodes_of_waits}
 use Rattle.nodes.specs.Table.{end_in, SomeNode}
 use Rattle.cells.specs.declared.Cells.{Cells}
@@ -37,7 +36,7 @@ use Rattle.answering.specs.Rows.{Ended, SameRows, Remarked, Started}
 use Rattle.answering.specs.Marks.{Opens}
 use Rattle.answering.specs.Choosing.{Asked, SomeAsked, Answered}
 use Rattle.answering.specs.Playing.{Playable, checked, reached, shown, PlaysMoves}
-use Rattle.answering.specs.declared.PlayedOut.TheVariants.{Stopped, Played}
+use Rattle.std.specs.Prelude.{Ok, Err}
 use Rattle.answering.proofs.Rows.{same_twice, at_same, at_ended, each_same, clear_within, marked_rows, marked_before, marked_after}
 use Rattle.answering.proofs.Marks.{marked_open}
 use Rattle.answering.proofs.Marking.{root_room}
@@ -53,10 +52,6 @@ module _ {t : List ℕ} {b : Board} {p : Player} {s : Sheet} (h : Playable t b p
   sheet_read =
       let a = h.is_accepted in
       ((accepted_exactly a.0 a.1 s).0 a.2).fair.read.spells.well
-
-  pub board_fits : Fits b
-  board_fits =
-      subst Fits h.on (size_fits sheet_read.size)
 
   pub root_ended : SomeNode (Ended t) a_move 0
   root_ended = record { cell = _; under = _; at = at_ended h.root }
@@ -168,11 +163,15 @@ empty_cell s g x e = fst (is_cell s.board x) (not (is_taken s g x)) e
 
 module _ {t₀ : List ℕ} {b : Board} {p : Player} {s : Sheet} (h : Playable t₀ b p s) {moves room₀ t room ours theirs : List ℕ} {i : ℕ}
     (l : Playing b s moves room₀ t room ours theirs i) where
-  abbrev checked_now : ℕ → Result (Unit {0})
-  checked_now x = checked b p (held b ours) (held b theirs) x
+  -- the move, and what is said of it
+  abbrev x : ℕ
+  x = get_or moves i 0
 
-  asked_same : (x : ℕ) → checked s.board s.player (among (mine s l.game)) (among l.game.theirs) x ≡ checked_now x
-  asked_same x =
+  abbrev checked_now : Result (Unit {0})
+  checked_now = checked b p (held b ours) (held b theirs) x
+
+  asked_same : checked s.board s.player (among (mine s l.game)) (among l.game.theirs) x ≡ checked_now
+  asked_same =
       ap₂ (λ (z : Board) (q : Player). checked z q (among (mine s l.game)) (among l.game.theirs) x) h.on h.player_is
       ∙ checked_same b p (among (mine s l.game)) (held b ours) (among l.game.theirs) (held b theirs) x (λ y. sym (l.ours_are y)) (λ y. sym (l.theirs_are y))
 
@@ -183,35 +182,33 @@ module _ {t₀ : List ℕ} {b : Board} {p : Player} {s : Sheet} (h : Playable t�
   opens_now z = rw (z, h.on) l.are_open
 
   -- the move is refused
-  module _ (q : i < length moves) (v : Verdict) {x : ℕ} (w : x ≡ get_or moves i 0) (e : refused v ≡ checked_now x) where
-    stop_here : checked s.board s.player (among (mine s l.game)) (among l.game.theirs) (get_or moves i 0) ≡ refused v
-    stop_here = asked_same (get_or moves i 0) ∙ sym (e ∙ ap checked_now w)
-
-    pub playing_stopped : {t₁ : List ℕ} → Remarked t₁ t → PlaysMoves s t₁ moves room₀ (Stopped v (i + 1)) t room
-    unfolding shown
-    playing_stopped r =
-        let a = l.rounds_are ∙ ap (rounds s l.game (i + 1)) (next_move q) ∙ rounds_stop s l.game (get_or moves i 0) v (i + 1) (drop (i + 1) moves) stop_here in
-        let z = l.reached_is ∙ ap (reached s l.game) (next_move q) ∙ reached_stop s l.game (get_or moves i 0) v (drop (i + 1) moves) stop_here in
-        record { reply = sym (ap (shown s) a); rows = r; open_waits = opens_now z; answers = rw z l.room_is }
+  pub playing_stopped : i < length moves → (v : Verdict) → refused v ≡ checked_now → {t₁ : List ℕ} → Remarked t₁ t
+      → PlaysMoves s t₁ moves room₀ (Err (record { verdict = v; place = i + 1 })) t room
+  unfolding shown
+  playing_stopped q v e r =
+      let here = asked_same ∙ sym e in
+      let a = l.rounds_are ∙ ap (rounds s l.game (i + 1)) (next_move q) ∙ rounds_stop s l.game x v (i + 1) (drop (i + 1) moves) here in
+      let z = l.reached_is ∙ ap (reached s l.game) (next_move q) ∙ reached_stop s l.game x v (drop (i + 1) moves) here in
+      record { reply = sym (ap (shown s) a); rows = r; open_waits = opens_now z; answers = rw z l.room_is }
 
   -- no move is left
-  pub playing_done : length moves ≤ i → {t₁ : List ℕ} → Remarked t₁ t → {over : Bool} → over ≡ joined b p (held b ours)
-      → PlaysMoves s t₁ moves room₀ (Played i over) t room
+  pub playing_done : i ≡ length moves → {t₁ : List ℕ} → Remarked t₁ t → {over : Bool} → over ≡ joined b p (held b ours)
+      → PlaysMoves s t₁ moves room₀ (Ok (record { answers = length moves; over = over })) t room
   unfolding shown is_over
   playing_done q r {over} e =
-      let none = drop_of_length-le moves {i = i} q in
+      let none = drop_of_length-le moves {i = i} (omega arith) in
       let a = l.rounds_are ∙ ap (rounds s l.game (i + 1)) none ∙ rounds_end s l.game (i + 1) in
       let z = l.reached_is ∙ ap (reached s l.game) none ∙ reached_end s l.game in
       let o : over ≡ is_over s l.game
       = e
       ∙ joined_same b p (held b ours) (among (mine s l.game)) (λ y on. l.ours_are y)
       ∙ sym (ap₂ (λ (z : Board) (k : Player). joined z k (among (mine s l.game))) h.on h.player_is) in
-      record { reply = ap₂ Played (sym l.many) o ∙ sym (ap (shown s) a); rows = r; open_waits = opens_now z; answers = rw z l.room_is }
+      record { reply = ap₂ (λ (n : ℕ) (z : Bool). Ok (record { answers = n; over = z })) (sym (l.many ∙ q)) o ∙ sym (ap (shown s) a); rows = r; open_waits = opens_now z; answers = rw z l.room_is }
 
   -- the move is answered
-  module _ (x : ℕ) (e : got tt ≡ checked_now x) where
+  module _ (e : got tt ≡ checked_now) where
     fine_here : checked s.board s.player (among (mine s l.game)) (among l.game.theirs) x ≡ got tt
-    fine_here = asked_same x ∙ sym e
+    fine_here = asked_same ∙ sym e
 
     has_answer : HasAnswer s l.game x
     has_answer =
@@ -247,16 +244,15 @@ module _ {t₀ : List ℕ} {b : Board} {p : Player} {s : Sheet} (h : Playable t�
           (subst (λ (z : Board). T (is_cell z (taken l.game.open_waits has_answer.choice))) h.on
           (empty_cell s l.game (taken l.game.open_waits has_answer.choice) has_answer.was_empty))
 
-      pub playing_again : i < length moves → x ≡ get_or moves i 0 → length room ≡ length room₀ → {room' ours' theirs' : List ℕ}
+      pub playing_again : i < length moves → length room ≡ length room₀ → {room' ours' theirs' : List ℕ}
           → ((y : ℕ) → held b ours' y ≡ (eqb y r || held b ours y)) → ((y : ℕ) → held b theirs' y ≡ (eqb y x || held b theirs y))
           → Wrote room room' i r → Playing b s moves room₀ t' room' ours' theirs' (i + 1)
       unfolding next
-      playing_again q w n {room'} {ours'} {theirs'} us them put =
+      playing_again q n {room'} {ours'} {theirs'} us them put =
           let g = l.game in
           let f = answer_here in
           let k = has_answer.choice in
           let same : answered g x ≡ next g x k = answered_next s g x k has_answer.is_answer in
-          let now : checked s.board s.player (among (mine s g)) (among g.theirs) (get_or moves i 0) ≡ got tt = rw w at fine_here in
           record {
             game = next g x k;
             so_far = l.so_far ++ x ∷ [];
@@ -271,13 +267,13 @@ module _ {t₀ : List ℕ} {b : Board} {p : Player} {s : Sheet} (h : Playable t�
             rounds_are =
                 l.rounds_are
                 ∙ ap (rounds s g (i + 1)) (next_move q)
-                ∙ rounds_on s g (get_or moves i 0) (i + 1) (drop (i + 1) moves) now
-                ∙ ap (λ (z : Game). rounds s z (i + 1 + 1) (drop (i + 1) moves)) (ap (answered g) (sym w) ∙ same);
+                ∙ rounds_on s g x (i + 1) (drop (i + 1) moves) fine_here
+                ∙ ap (λ (z : Game). rounds s z (i + 1 + 1) (drop (i + 1) moves)) same;
             reached_is =
                 l.reached_is
                 ∙ ap (reached s g) (next_move q)
-                ∙ reached_on s g (get_or moves i 0) (drop (i + 1) moves) now
-                ∙ ap (λ (z : Game). reached s z (drop (i + 1) moves)) (ap (answered g) (sym w) ∙ same);
+                ∙ reached_on s g x (drop (i + 1) moves) fine_here
+                ∙ ap (λ (z : Game). reached s z (drop (i + 1) moves)) same;
             so_many = omega (arith, length-append l.so_far (x ∷ []), l.so_many);
             room_is =
                 room_more g.answers room₀ room room' i (taken g.open_waits k) l.many n l.room_is
@@ -287,9 +283,8 @@ module _ {t₀ : List ℕ} {b : Board} {p : Player} {s : Sheet} (h : Playable t�
 pub wrote_long : {room later : List ℕ} {i c : ℕ} → Wrote room later i c → length later ≡ length room
 wrote_long {room = room} {i = i} {c = c} w = ap length w.stored ∙ length-set room i c
 
--- the loop's invariant; the table was t₀ where the loop began
-pub record Going (b : Board) (p : Player) (moves t₀ room₀ ours₀ theirs₀ t room ours theirs : List ℕ) (i : ℕ) : Type 0 where
-  pub turns : i ≤ length moves
+-- the loop's invariant; the table and the room were t₀ and room₀, and these are the set-up stones
+pub record Going (b : Board) (p : Player) (moves t₀ room₀ : List ℕ) (own opp : Cells) (t room ours theirs : List ℕ) (i : ℕ) : Type 0 where
   pub rows : Remarked t₀ t
   pub long : length room ≡ length room₀
-  pub plays : (s : Sheet) → Playable t₀ b p s → StartAt b s ours₀ theirs₀ → Playing b s moves room₀ t room ours theirs i
+  pub plays : (s : Sheet) → Playable t₀ b p s → HeldStones b s.set_up own opp → Playing b s moves room₀ t room ours theirs i

@@ -1,9 +1,8 @@
 -- Laws of marks: storing one keeps the rows, and what stands in the table depends on the rows alone.
-use mathlib.Core.Path.{◌≡◌, refl, sym, ◌∙◌, subst⁻¹}
+use mathlib.Core.Path.{◌≡◌, refl, sym, ◌∙◌}
 use mathlib.Core.Logic.{⊎_elim}
 use Prim.Native.Nat.{ℕ, ◌+◌, ◌-◌, ◌*◌, ◌<◌, ◌≤◌}
 use native.Mathlib.Nat.{eq-zero-or-pos}
-use native.Mathlib.Decide.{ℕ_discrete}
 use native.Mathlib.Omega.{arith}
 use mathlib.Core.List.{List}
 use lib.ListN.{length, length-set}
@@ -12,7 +11,7 @@ use Rattle.rules.specs.declared.Board.{Board}
 use Rattle.nodes.specs.Nodes.{Nodes, no_nodes, node, Kind, size}
 use Rattle.nodes.specs.Table.{count_in, Row, Each, At}
 use Rattle.nodes.proofs.Table.{each_map}
-use Rattle.answering.specs.Rows.{Ended, EndedOn, SameRows, Remarked, with_mark, Clear, Cleared, marked}
+use Rattle.answering.specs.Rows.{Ended, EndedOn, SameRows, Remarked, with_mark, Clear, marked}
 
 -- the rows stay
 pub same_self : (t : List ℕ) → SameRows t t
@@ -29,9 +28,6 @@ same_twice p q =
       under = λ i. q.under i ∙ p.under i;
       end = λ i. q.end i ∙ p.end i;
     }
-
-pub remarked_self : (t : List ℕ) → Remarked t t
-remarked_self t = record { rows = same_self t; later = λ i p. refl }
 
 pub remarked_twice : {t u v : List ℕ} → Remarked t u → Remarked u v → Remarked t v
 remarked_twice p q =
@@ -107,23 +103,6 @@ clear_join {t} {from} {mid} {to} c d =
     record {
       clear = λ i lo hi. ⊎_elim (λ e. d.clear i (omega arith) hi) (λ p. c.clear i lo (omega arith)) (eq-zero-or-pos (mid - i));
     }
-
--- clearing the marks of the first nodes, one after another
-pub cleared_none : (t : List ℕ) → Cleared t 0 t
-cleared_none t = record { rows = same_self t; clear = clear_none t 0; later = λ i p. refl }
-
-pub cleared_more : {t v : List ℕ} {i : ℕ} → Cleared t i v → 4 * i + 3 < length v → {w : List ℕ} → w ≡ with_mark v i 0 → Cleared t (i + 1) w
-cleared_more {t} {v} {i} c h {w} e =
-    subst⁻¹ (λ (l : List ℕ). Cleared t (i + 1) l) e
-    (record {
-      rows = same_twice c.rows (mark_rows v i 0);
-      clear = record { clear = λ j lo hi. go j hi (ℕ_discrete j i) };
-      later = λ j p. mark_elsewhere v i 0 j (λ e. omega arith) ∙ c.later j (omega arith);
-    })
-  where
-    go : (j : ℕ) → j < i + 1 → Dec (j ≡ i) → count_in (with_mark v i 0) j ≡ 0
-    go j hi (yes e) = rw e (mark_there v i 0 h)
-    go j hi (no n) = mark_elsewhere v i 0 j n ∙ c.clear.clear j (omega arith) (omega arith)
 
 -- nodes side by side are marked, and no others
 pub marked_rows : (n : Nodes) (i : ℕ) (t : List ℕ) → SameRows t (marked n i t)

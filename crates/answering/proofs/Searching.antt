@@ -1,11 +1,12 @@
--- The loops that look for the wait that holds a cell, for the first open wait, and for the first move that does not hold a cell.
+-- The loops that look for the open wait that holds a cell, and for the first move that does not hold one.
 use mathlib.Core.Path.{◌≡◌, refl, sym, ap, ◌∙◌, subst}
-use Prim.Native.Nat.{ℕ, ◌+◌, ◌-◌, ◌*◌, ◌<◌, ◌≤◌}
+use Prim.Native.Nat.{ℕ, ◌-◌, ◌<◌, ◌≤◌}
 use native.Mathlib.Omega.{arith}
 use mathlib.Core.Bool.{true, false}
 use mathlib.Core.Option.{some}
+use mathlib.Core.Logic.{◌≢◌}
+use Rattle.std.specs.Prelude.{Option, Some, None}
 use mathlib.Core.List.{List}
-use lib.ListN.{length}
 use Rattle.rules.specs.Tree.{Waits, no_waits, wait, Moves, no_moves, move}
 use Rattle.rules.specs.Fair.{in_move}
 use Rattle.rules.specs.Choice.{the_first, one_later, PlaceIn, first_move}
@@ -13,13 +14,18 @@ use Rattle.rules.specs.declared.Board.{Board}
 use Rattle.nodes.specs.Nodes.{a_move, nodes_of_waits, nodes_of_moves}
 use Rattle.nodes.specs.Table.{count_in, end_in, Each, At}
 use Rattle.nodes.proofs.Trees.{move_first}
-use Rattle.answering.specs.Rows.{EndedOn}
-use Rattle.answering.specs.Marks.{Open, none_open, open_at, Opens, SomeOpen, SomeWaiting}
+use Rattle.answering.specs.Rows.{Within, EndedOn}
+use Rattle.answering.specs.Marks.{Open, none_open, open_at, Opens, SomeOpen, FirstOpen}
 use Rattle.answering.specs.Choosing.{holds_at, touched_in, node_there, without, Dodge, SomeDodge}
 use Rattle.answering.specs.declared.Found.TheVariants as found
 use Rattle.answering.proofs.Holding.{wait_held, move_held, named_room}
-use Rattle.answering.proofs.Marks.{First, open_skip, open_first, open_end, open_some}
+use Rattle.answering.proofs.Marks.{First, open_pass, open_first, open_end}
 use Rattle.answering.proofs.Choosing.{Mapped, mapped, touched_here, touched_later, touched_none}
+
+-- where no node is marked, no wait is open
+none_left : {n₁ : ℕ} {b : Board} {t : List ℕ} {n i : ℕ} {ws : Waits} → Open n₁ b t n i ws → ((k : ℕ) → i ≤ k → k < n → count_in t k ≢ 1) → ws ≡ no_waits
+none_left (none_open q c) h = refl
+none_left (open_at j q c o r) h = absurd (h j q (omega (arith, open_end _ r)) o.mark)
 
 -- the first of the waits ws that holds x is the first of those left, from node i on
 pub record WaitsLeft (n₁ : ℕ) (b : Board) (t : List ℕ) (x i : ℕ) (ws : Waits) : Type 0 where
@@ -28,98 +34,67 @@ pub record WaitsLeft (n₁ : ℕ) (b : Board) (t : List ℕ) (x i : ℕ) (ws : W
   pub same : touched_in n₁ x ws ≡ touched_in n₁ x rest
 
 -- the loop's invariant
-pub record Looking (t : List ℕ) (x end i : ℕ) : Type 0 where
-  pub end_is : end ≡ end_in t 0
+pub record Looking (t : List ℕ) (x i : ℕ) : Type 0 where
   pub left : (n₁ : ℕ) (b : Board) (ws : Waits) → Opens n₁ b t ws → WaitsLeft n₁ b t x i ws
 
-pub looking_starts : {t : List ℕ} {x end : ℕ} → end ≡ end_in t 0 → Looking t x end 1
-looking_starts e = record { end_is = e; left = λ n₁ b ws o. record { rest = ws; marks = o.marks; same = refl } }
+pub looking_starts : {t : List ℕ} {x : ℕ} → Looking t x 1
+looking_starts = record { left = λ n₁ b ws o. record { rest = ws; marks = o.marks; same = refl } }
 
-module _ {t : List ℕ} {x end i : ℕ} (l : Looking t x end i) where
-  first_left : i < end → count_in t i ≡ 1 → (n₁ : ℕ) (b : Board) (ws : Waits) (o : Opens n₁ b t ws) → First n₁ b t (end_in t 0) i (l.left n₁ b ws o).rest
-  first_left p m n₁ b ws o = open_first _ (omega (arith, l.end_is)) (λ z. omega arith) (l.left n₁ b ws o).marks
+module _ {t : List ℕ} {x i : ℕ} (l : Looking t x i) where
+  -- the first open wait from node i on is at node w
+  module _ {w : ℕ} (p : FirstOpen t i (Some w)) where
+    first_left : (n₁ : ℕ) (b : Board) (ws : Waits) (o : Opens n₁ b t ws) → First n₁ b t (end_in t 0) w (l.left n₁ b ws o).rest
+    first_left n₁ b ws o = open_first _ p.1 (λ z. omega (arith, p.2)) (open_pass _ w p.0 (omega (arith, p.1)) p.3 (l.left n₁ b ws o).marks)
 
-  -- within the table
-  pub looking_room : i < end → SomeOpen t → 4 * i + 3 < length t
-  looking_room p s = omega (arith, l.end_is, s.are_open.within)
+    -- it is within the table
+    pub looking_wait : SomeOpen t → Within t w
+    looking_wait s = named_room (first_left s.first s.board s.waits s.are_open).here.at
 
-  pub looking_wait : i < end → count_in t i ≡ 1 → SomeOpen t → (4 * i + 3 < length t) × (4 * end_in t i ≤ length t)
-  looking_wait p m s = named_room (first_left p m s.first s.board s.waits s.are_open).here.at
+    pub looking_on : SomeOpen t → w < end_in t w
+    looking_on s = omega (arith, (first_left s.first s.board s.waits s.are_open).here.at.here.end)
 
-  -- no open wait is at node i
-  pub looking_skip : i < end → (count_in t i ≡ 1 → ⊥) → Looking t x end (i + 1)
-  looking_skip p m =
-      record {
-        end_is = l.end_is;
-        left = λ n₁ b ws o.
-            let d = l.left n₁ b ws o in
-            record { rest = d.rest; marks = open_skip _ (omega (arith, l.end_is)) m d.marks; same = d.same };
-      }
+    -- it holds x
+    pub looking_found : 1 ≤ x → true ≡ holds_at t w x → (n₁ : ℕ) (b : Board) (ws : Waits) → Opens n₁ b t ws → found.At w ≡ touched_in n₁ x ws
+    looking_found q f n₁ b ws o =
+        let d = first_left n₁ b ws o in
+        let e : w ≡ d.line - n₁ = omega (arith, d.here.line_is) in
+        sym
+        ((l.left n₁ b ws o).same
+        ∙ ap (touched_in n₁ x) d.are
+        ∙ touched_here n₁ x d.line d.moves d.others (sym (f ∙ wait_held x q d.moves d.here.at))
+        ∙ ap found.At (sym e))
 
-  -- the open wait at node i holds x
-  pub looking_found : i < end → count_in t i ≡ 1 → 1 ≤ x → true ≡ holds_at t i x → (n₁ : ℕ) (b : Board) (ws : Waits) → Opens n₁ b t ws → found.At i ≡ touched_in n₁ x ws
-  looking_found p m q f n₁ b ws o =
-      let d = first_left p m n₁ b ws o in
-      let e : i ≡ d.line - n₁ = omega (arith, d.here.line_is) in
-      sym
-      ((l.left n₁ b ws o).same
-      ∙ ap (touched_in n₁ x) d.are
-      ∙ touched_here n₁ x d.line d.moves d.others (sym (f ∙ wait_held x q d.moves d.here.at))
-      ∙ ap found.At (sym e))
+    -- it does not
+    pub looking_again : 1 ≤ x → false ≡ holds_at t w x → Looking t x (end_in t w)
+    looking_again q f =
+        record {
+          left = λ n₁ b ws o.
+              let d = first_left n₁ b ws o in
+              record {
+                rest = d.others;
+                marks = rw d.here.at.here.end d.rest;
+                same =
+                    (l.left n₁ b ws o).same
+                    ∙ ap (touched_in n₁ x) d.are
+                    ∙ touched_later n₁ x d.line d.moves d.others (sym (f ∙ wait_held x q d.moves d.here.at));
+              };
+        }
 
-  -- it does not
-  pub looking_on : i < end → count_in t i ≡ 1 → SomeOpen t → i < end_in t i
-  looking_on p m s = omega (arith, (first_left p m s.first s.board s.waits s.are_open).here.at.here.end)
-
-  pub looking_again : i < end → count_in t i ≡ 1 → 1 ≤ x → false ≡ holds_at t i x → Looking t x end (end_in t i)
-  looking_again p m q f =
-      record {
-        end_is = l.end_is;
-        left = λ n₁ b ws o.
-            let d = first_left p m n₁ b ws o in
-            record {
-              rest = d.others;
-              marks = rw d.here.at.here.end d.rest;
-              same =
-                  (l.left n₁ b ws o).same
-                  ∙ ap (touched_in n₁ x) d.are
-                  ∙ touched_later n₁ x d.line d.moves d.others (sym (f ∙ wait_held x q d.moves d.here.at));
-            };
-      }
-
-  -- no node is left
-  pub looking_done : end ≤ i → (n₁ : ℕ) (b : Board) (ws : Waits) → Opens n₁ b t ws → found.Nothing ≡ touched_in n₁ x ws
+  -- there is none
+  pub looking_done : FirstOpen t i None → (n₁ : ℕ) (b : Board) (ws : Waits) → Opens n₁ b t ws → found.Nothing ≡ touched_in n₁ x ws
   looking_done p n₁ b ws o =
       let d = l.left n₁ b ws o in
-      sym (d.same ∙ ap (touched_in n₁ x) (none_left d.marks (omega (arith, l.end_is))) ∙ touched_none n₁ x)
-    where
-      none_left : {n₁ : ℕ} {b : Board} {t : List ℕ} {n i : ℕ} {ws : Waits} → Open n₁ b t n i ws → n ≤ i → ws ≡ no_waits
-      none_left (none_open q c) h = refl
-      none_left (open_at j q c o r) h = absurd (omega (arith, open_end _ r))
+      sym (d.same ∙ ap (touched_in n₁ x) (none_left d.marks p) ∙ touched_none n₁ x)
 
--- the search for the first open wait
-pub record Nearing (t : List ℕ) (i : ℕ) : Type 0 where
-  pub marks : (n₁ : ℕ) (b : Board) (line : ℕ) (ms : Moves) (ws : Waits) → Opens n₁ b t (wait line ms ws) → Open n₁ b t (end_in t 0) i (wait line ms ws)
-
-pub nearing_starts : (t : List ℕ) → Nearing t 1
-nearing_starts t = record { marks = λ n₁ b line ms ws o. o.marks }
-
-module _ {t : List ℕ} {i : ℕ} (l : Nearing t i) where
-  pub nearing_end : SomeWaiting t → i < end_in t 0
-  nearing_end s = open_some _ (l.marks _ _ _ _ _ s.5)
-
-  pub nearing_room : SomeWaiting t → 4 * i + 3 < length t
-  nearing_room s = omega (arith, nearing_end s, s.5.within)
-
-  pub nearing_again : count_in t i ≡ 0 → Nearing t (i + 1)
-  nearing_again z = record { marks = λ n₁ b line ms ws o. let m = l.marks n₁ b line ms ws o in open_skip _ (open_some _ m) (λ e. omega arith) m }
-
-  pub nearing_done : (count_in t i ≡ 0 → ⊥) → (n₁ : ℕ) (b : Board) (line : ℕ) (ms : Moves) (ws : Waits) → Opens n₁ b t (wait line ms ws) → i ≡ line - n₁
-  nearing_done z n₁ b line ms ws o =
-      let m = l.marks n₁ b line ms ws o in
-      let d = open_first _ (open_some _ m) z m in
-      let e : d.line ≡ line = cc d.are in
-      omega (arith, d.here.line_is)
+-- where waits are open, the first of them is the first node that is marked
+pub waiting_first : {n₁ : ℕ} {b : Board} {t : List ℕ} {line : ℕ} {ms : Moves} {ws : Waits} (r : Option ℕ) → FirstOpen t 1 r → Opens n₁ b t (wait line ms ws)
+    → r ≡ Some (line - n₁)
+waiting_first None p o = let z : ◌≡◌ {A = ℕ} 0 1 = cc (none_left o.marks p) in absurd (omega arith)
+waiting_first {n₁} {line = line} (Some w) p o =
+    let d = open_first _ p.1 (λ z. omega (arith, p.2)) (open_pass _ w p.0 (omega (arith, p.1)) p.3 o.marks) in
+    let e : d.line ≡ line = cc d.are in
+    let f : w ≡ line - n₁ = omega (arith, d.here.line_is) in
+    ap Some f
 
 -- of a wait's moves those are left that are from node next on, and the first that does not hold x is among them
 pub record MovesLeft (b : Board) (t : List ℕ) (x next place : ℕ) : Type 0 where
@@ -180,17 +155,11 @@ move_step {b} {t} {x} {next} {place} l = go l.rest l.spot l.each l.is_first l.sa
 pub record Dodging (t : List ℕ) (i x next : ℕ) : Type 0 where
   pub left : (b : Board) (ms : Moves) (p : PlaceIn ms) → Dodge b t i x ms p → MovesLeft b t x next (node_there i ms p)
 
-pub dodging_starts : (t : List ℕ) (i x : ℕ) → Dodging t i x i
-dodging_starts t i x =
-    record {
-      left = λ b ms p d. record { rest = ms; spot = p; each = d.each; is_first = d.is_first; same = refl };
-    }
-
 module _ {t : List ℕ} {i x next : ℕ} (l : Dodging t i x next) where
   dodging_step : (s : SomeDodge t i x) → MoveStep s.0 t x next (node_there i s.1 s.2)
   dodging_step s = move_step (l.left s.0 s.1 s.2 s.3)
 
-  pub dodging_room : SomeDodge t i x → (4 * next + 3 < length t) × (4 * end_in t next ≤ length t)
+  pub dodging_room : SomeDodge t i x → Within t next
   dodging_room s = named_room (dodging_step s).at
 
   pub dodging_on : SomeDodge t i x → next < end_in t next

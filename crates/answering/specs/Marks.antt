@@ -1,5 +1,5 @@
 -- The open waits as the table has them: a node's count is 1 at an open wait, and 0 at every other node.
-use Rattle.std.specs.Prelude.{◌≡◌, ℕ, ◌+◌, ◌*◌, ◌<◌, ◌≤◌, List, length}
+use Rattle.std.specs.Prelude.{◌≡◌, ◌≢◌, ℕ, ◌+◌, ◌*◌, ◌<◌, ◌≤◌, List, length, Option, MatchOption}
 use Rattle.rules.specs.Tree.{Waits, no_waits, wait, Moves}
 use Rattle.rules.specs.declared.Board.{Board}
 use Rattle.nodes.specs.Nodes.{a_wait, size, nodes_of_moves}
@@ -34,6 +34,8 @@ pub record SomeOpen (t : List ℕ) : Type 0 where
   pub waits : Waits
   pub are_open : Opens first board t waits
 
--- some wait is
-abbrev pub SomeWaiting : List ℕ → Type 0
-SomeWaiting t = (f : ℕ) × (b : Board) × (line : ℕ) × (ms : Moves) × (ws : Waits) × Opens f b t (wait line ms ws)
+-- the first node from `from` on that is marked as an open wait, if there is one before the end of the root
+abbrev pub FirstOpen : List ℕ → (from : ℕ) → Option ℕ → Type 0
+FirstOpen t from r =
+    MatchOption r ((k : ℕ) → from ≤ k → k < end_in t 0 → count_in t k ≢ 1)
+    (λ i. (from ≤ i) × (i < end_in t 0) × (count_in t i ≡ 1) × ((k : ℕ) → from ≤ k → k < i → count_in t k ≢ 1))

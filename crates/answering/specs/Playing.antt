@@ -1,5 +1,6 @@
 -- What playing a list of moves on a held sheet asks for and answers.
 use Rattle.std.specs.Prelude.{◌≡◌, Bool, false, not, ◌||◌, ℕ, List, [], ◌∷◌, length}
+use Rattle.std.specs.Prelude as code
 use Rattle.rules.specs.Text.{Bytes}
 use Rattle.rules.specs.Board.{is_cell}
 use Rattle.rules.specs.Tree.{Sheet}
@@ -17,10 +18,8 @@ use Rattle.nodes.specs.Table.{At}
 use Rattle.nodes.specs.Sheets.{HeldStones}
 use Rattle.answering.specs.Rows.{EndedOn, Remarked}
 use Rattle.answering.specs.Marks.{Opens}
-use Rattle.answering.specs.declared.Refusal.{Refusal}
-use Rattle.answering.specs.declared.Refusal.TheVariants as refusal
 use Rattle.answering.specs.declared.PlayedOut.{PlayedOut}
-use Rattle.answering.specs.declared.PlayedOut.TheVariants.{Stopped, Played}
+use Rattle.answering.specs.declared.Stopped.{Stopped}
 
 -- the sheet is an accepted one, and stands in the table up to its counts
 pub record Playable (t : List ℕ) (b : Board) (p : Player) (s : Sheet) : Type 0 where
@@ -35,11 +34,6 @@ pub record SomePlayable (t : List ℕ) (b : Board) (p : Player) (own opp : Cells
   pub playable : Playable t b p sheet
   pub stones : HeldStones b sheet.set_up own opp
 
--- what a refusal stands for
-abbrev pub refusal_of : Refusal → Result (Unit {0})
-refusal_of (refusal.With v) = refused v
-refusal_of refusal.Nothing = got tt
-
 -- 15, 16, 17 of a move to x, with the stones of the player and of the opponent as sets
 unfoldable pub checked : Board → Player → (mine theirs : ℕ → Bool) → ℕ → Result (Unit {0})
 checked b p mine theirs x = do
@@ -53,19 +47,19 @@ reached s g [] = g
 reached s g (x ∷ xs) = elim (step s g x) [ refused v ↦ g | got h ↦ reached s h xs ]
 
 -- what is replied of the rounds
-unfoldable pub shown : Sheet → Rounds → PlayedOut
-shown s (stopped v place) = Stopped v place
-shown s (played g) = Played (length g.answers) (is_over s g)
+unfoldable pub shown : Sheet → Rounds → code.Result PlayedOut Stopped
+shown s (stopped v place) = code.Err (record { verdict = v; place = place })
+shown s (played g) = code.Ok (record { answers = length g.answers; over = is_over s g })
 
 -- it as an entry returns it: on a refusal no answers and not over
-abbrev pub as_played : PlayedOut → declared.Played
-as_played (Stopped v place) = record { verdict = v; place = place; answers = 0; over = false }
-as_played (Played n over) = record { verdict = Done; place = 0; answers = n; over = over }
+abbrev pub as_played : code.Result PlayedOut Stopped → declared.Played
+as_played (code.Err x) = record { verdict = x.verdict; place = x.place; answers = 0; over = false }
+as_played (code.Ok x) = record { verdict = Done; place = 0; answers = x.answers; over = x.over }
 
 -- the moves are played: the reply is that of the rounds; the table is the same up to the counts of its nodes, which mark the waits
 -- that are open in the game reached; and the answers up to the first refused move stand in the first places of the room, whose other
 -- places are as they were
-pub record PlaysMoves (s : Sheet) (t moves room : List ℕ) (r : PlayedOut) (t' room' : List ℕ) : Type 0 where
+pub record PlaysMoves (s : Sheet) (t moves room : List ℕ) (r : code.Result PlayedOut Stopped) (t' room' : List ℕ) : Type 0 where
   pub reply : r ≡ shown s (rounds s (start s) 1 moves)
   pub rows : Remarked t t'
   pub open_waits : Opens s.root.line s.board t' (reached s (start s) moves).open_waits

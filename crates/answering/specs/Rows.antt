@@ -6,6 +6,10 @@ use Rattle.rules.specs.declared.Board.{Board}
 use Rattle.nodes.specs.Nodes.{Nodes, no_nodes, node, Kind, size, nodes_of_waits, nodes_of_moves}
 use Rattle.nodes.specs.Table.{cell_in, under_in, end_in, count_in, Row}
 
+-- node i and all nodes under it are in the table
+abbrev pub Within : List ℕ → ℕ → Type 0
+Within t i = (4 * i + 3 < length t) × (4 * end_in t i ≤ length t)
+
 -- node i has its cell, the number of nodes right under it, and the node after all under it
 pub record Ended (t : List ℕ) (k : Kind) (i c : ℕ) (u : Nodes) : Type 0 where
   pub row : Row t k i c u

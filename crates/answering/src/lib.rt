@@ -1,27 +1,30 @@
 // answering: a sheet that the node table holds is played against a list of opponent moves by the answering rule. While it is
 // played, a node's count is 1 at an open wait and 0 at every other node. It sees rules, cells and nodes.
+// A walk goes on by a number of the table, the end of a node: a `while`.
 
 #![tactic(auto)]
 
-ghost use Rattle.std.specs.Prelude.{◌≡◌, ℕ, ◌+◌, ◌-◌, ◌*◌, ◌<◌, ◌≤◌, length};
+ghost use Rattle.std.specs.Prelude.{◌≡◌, ℕ, ◌+◌, ◌*◌, ◌<◌, ◌≤◌, length};
 ghost use Rattle.rules.specs.Sizes.{most_nodes};
-ghost use Rattle.rules.specs.Tree.{Waits, wait, Moves, Sheet};
+ghost use Rattle.rules.specs.Tree.{Waits, Moves, Sheet};
 ghost use Rattle.rules.specs.Choice.{PlaceIn, Choice};
 ghost use Rattle.rules.specs.declared.Board as declared;
-ghost use Rattle.cells.specs.Cells.{held, Fits};
+ghost use Rattle.rules.specs.Answer.{as_result};
+ghost use Rattle.cells.specs.Cells.{held};
 ghost use Rattle.nodes.specs.Nodes.{a_move, Nodes};
 ghost use Rattle.nodes.specs.Table.{end_in, At, SomeNode};
 ghost use Rattle.nodes.specs.Sheets.{HeldStones};
-ghost use Rattle.answering.specs.Rows.{Ended, with_mark, Cleared, marked, Started};
-ghost use Rattle.answering.specs.Marks.{Opens, SomeOpen, SomeWaiting};
+ghost use Rattle.answering.specs.Rows.{Within, Ended, with_mark, Cleared, marked, Started};
+ghost use Rattle.answering.specs.Marks.{Opens, SomeOpen, FirstOpen};
 ghost use Rattle.answering.specs.Choosing.{holds_at, touched_in, node_there, Dodge, SomeDodge, Asked, SomeAsked, Chosen, Answered};
-ghost use Rattle.answering.specs.Playing.{Playable, SomePlayable, refusal_of, checked, PlaysMoves};
+ghost use Rattle.answering.specs.Playing.{Playable, SomePlayable, checked, PlaysMoves};
 
-use cells::{Cells, is_cell};
-use nodes::{cell_at, count_at, end_at, under_at, with_stone};
-use rules::{Board, Player, Verdict};
+use cells::Grid;
+use nodes::{Stones, cell_at, count_at, end_at, under_at, with_stone};
+use rules::{Player, Verdict};
 
-// The open wait that holds a cell, by its node.
+// The open wait that holds a cell, by its node. An enum of its own, and no Option: the answering rule is to be read here word for word, as a
+// search that answers Found or Nothing, where let .. else turns Nothing into the free move.
 #[derive(Clone, Copy)]
 enum Found {
     At(usize),
@@ -35,25 +38,29 @@ struct Answer {
     node: usize,
 }
 
-// Whether a move is refused, and with which verdict.
+// Moves that were all played: the number of answers, and whether play is over.
 #[derive(Clone, Copy)]
-enum Refusal {
-    With(Verdict),
-    Nothing,
+pub struct PlayedOut {
+    pub answers: usize,
+    pub over: bool,
 }
 
-// What a list of moves comes to: a verdict at the place of the refused move, from 1, or the number of answers and whether play is over.
+// A move that is refused: the verdict, and the move's place, from 1.
 #[derive(Clone, Copy)]
-pub enum PlayedOut {
-    Stopped { verdict: Verdict, place: usize },
-    Played { answers: usize, over: bool },
+pub struct Stopped {
+    pub verdict: Verdict,
+    pub place: usize,
 }
 
-// A number of a lent slice as a cell.
-fn wide(x: u32) -> usize
-    ensures { result ≡ x }
-{
-    x as usize
+// A refusal of all moves together: at place 0.
+impl From<Verdict> for Stopped {
+    ghost use Rattle.std.specs.Prelude.{◌≡◌};
+
+    ghost from_gives = { λ v s. s ≡ record { verdict = v; place = 0 } };
+
+    fn from(verdict: Verdict) -> Stopped {
+        Stopped { verdict, place: 0 }
+    }
 }
 
 // Stores the mark of node i.
@@ -66,14 +73,12 @@ fn set_mark(t: &mut [u32], i: usize, mark: u32)
 
 // Clears the marks of all nodes.
 fn clear_marks(t: &mut [u32])
-    requires { (3 < length t.old) × (4 * end_in t.old 0 ≤ length t.old) }
+    requires { Within t.old 0 }
     ensures { Cleared t.old (end_in t.old 0) t.new }
 {
     let end = end_at(t, 0);
-    let mut i = 0;
-    while i < end {
+    for i in 0..end {
         set_mark(t, i, 0);
-        i += 1;
     }
 }
 
@@ -84,60 +89,48 @@ fn open_under(t: &mut [u32], i: usize)
 {
     let under = under_at(t, i);
     let mut next = i + 1;
-    let mut j = 0;
-    while j < under {
+    for _ in 0..under {
         set_mark(t, next, 1);
         next = end_at(t, next);
-        j += 1;
     }
 }
 
 // Whether the cells of node i and under it hold the cell.
 fn holds(t: &[u32], i: usize, cell: usize) -> bool
-    requires { (4 * i + 3 < length t.now) × (4 * end_in t.now i ≤ length t.now) }
+    requires { Within t.now i }
     ensures { result ≡ holds_at t.now i cell }
 {
+    // A loop: `any` on the range is slower (651 million instructions and not 490, over 80,000 moves on a sheet of 2,041 nodes).
     let end = end_at(t, i);
-    let mut node = i;
-    while node < end {
+    for node in i..end {
         if cell_at(t, node) == cell {
             return true;
         }
-        node += 1;
     }
     false
 }
 
-// The open wait that holds the cell, if one does.
+// The first open wait from a node on, if there is one.
+fn first_open(t: &[u32], from: usize) -> Option<usize>
+    requires { Within t.now 0 }
+    ensures { FirstOpen t.now from result }
+{
+    (from..end_at(t, 0)).find(|&i| count_at(t, i) == 1)
+}
+
+// The open wait that holds the cell, if one does. (It asks for a cell of 1 or more, as do the next three: 0 stands in the table for none.)
 fn touched(t: &[u32], cell: usize) -> Found
     requires { (1 ≤ cell) × SomeOpen t.now }
     ensures { (f : ℕ) (b : declared.Board) (ws : Waits) → Opens f b t.now ws → result ≡ touched_in f cell ws }
 {
-    let end = end_at(t, 0);
-    let mut i = 1;
-    while i < end {
-        if count_at(t, i) == 1 {
-            if holds(t, i, cell) {
-                return Found::At(i);
-            }
-            i = end_at(t, i);
-        } else {
-            i += 1;
+    let mut from = 1;
+    while let Some(wait) = first_open(t, from) {
+        if holds(t, wait, cell) {
+            return Found::At(wait);
         }
+        from = end_at(t, wait);
     }
     Found::Nothing
-}
-
-// The first open wait.
-fn first_open(t: &[u32]) -> usize
-    requires { SomeWaiting t.now }
-    ensures { (f : ℕ) (b : declared.Board) (line : ℕ) (ms : Moves) (ws : Waits) → Opens f b t.now (wait line ms ws) → result ≡ line - f }
-{
-    let mut wait = 1;
-    while count_at(t, wait) == 0 {
-        wait += 1;
-    }
-    wait
 }
 
 // The first of the moves from node i on whose cells do not hold the cell.
@@ -157,9 +150,8 @@ fn answer_at(t: &[u32], cell: usize) -> Answer
     requires { (1 ≤ cell) × SomeAsked t.now cell }
     ensures { (f : ℕ) (b : declared.Board) (ws : Waits) (k : Choice ws) → Asked f b t.now cell ws k → Chosen f ws k result.wait result.node }
 {
-    let found = touched(t, cell);
-    let Found::At(wait) = found else {
-        let first = first_open(t);
+    let Found::At(wait) = touched(t, cell) else {
+        let first = first_open(t, 1).unwrap();
         return Answer {
             wait: first,
             node: first + 1,
@@ -175,29 +167,26 @@ fn answer_to(t: &mut [u32], cell: usize) -> usize
     requires { (1 ≤ cell) × SomeAsked t.old cell }
     ensures { (f : ℕ) (b : declared.Board) (ws : Waits) (k : Choice ws) → Asked f b t.old cell ws k → Answered f b t.old ws k result t.new }
 {
-    let a = answer_at(t, cell);
-    let wait = a.wait;
-    let node = a.node;
-    set_mark(t, wait, 0);
-    open_under(t, node);
-    cell_at(t, node)
+    let answer = answer_at(t, cell);
+    set_mark(t, answer.wait, 0);
+    open_under(t, answer.node);
+    cell_at(t, answer.node)
 }
 
-// Whether the opponent's move to the cell is refused.
-fn refused_move(board: Board, player: Player, mine: Cells, theirs: Cells, cell: usize) -> Refusal
-    requires { Fits board }
-    ensures { refusal_of result ≡ checked board player (held board mine.rows) (held board theirs.rows) cell }
+// Whether the opponent may move to the cell: not after the game is over, nor where there is no cell, nor onto a stone.
+fn checked_move(grid: Grid, player: Player, stones: Stones, cell: usize) -> Result<(), Verdict>
+    ensures { as_result (λ x. x) result ≡ checked grid.board player (held grid.board stones.own.rows) (held grid.board stones.opp.rows) cell }
 {
-    if mine.joins(board, player) {
-        return Refusal::With(Verdict::AfterOver);
+    if stones.own.joins(grid, player) {
+        return Err(Verdict::AfterOver);
     }
-    if !is_cell(board, cell) {
-        return Refusal::With(Verdict::NoSuchCell);
+    if !grid.is_cell(cell) {
+        return Err(Verdict::NoSuchCell);
     }
-    if mine.has(board, cell) || theirs.has(board, cell) {
-        return Refusal::With(Verdict::CellTaken);
+    if stones.has(grid, cell) {
+        return Err(Verdict::CellTaken);
     }
-    Refusal::Nothing
+    Ok(())
 }
 
 // Opens the waits of the root, and no others.
@@ -209,41 +198,39 @@ fn open_start(t: &mut [u32])
     open_under(t, 0);
 }
 
-// Plays the moves: the table holds an accepted sheet, and the sets the player's own and the opponent's set-up stones. The answers are
-// written into the first places of the room, which has one for each wait.
+// Plays the moves: the table holds an accepted sheet, and these are its set-up stones. The answers are written into the first places of the
+// room, which has one for each wait.
 pub fn play_moves(
     t: &mut [u32],
-    board: Board,
+    grid: Grid,
     player: Player,
-    own: Cells,
-    opp: Cells,
+    set_up: Stones,
     moves: &[u32],
     room: &mut [u32],
-) -> PlayedOut
-    requires holds { SomePlayable t.old board player own opp }
+) -> Result<PlayedOut, Stopped>
+    requires holds { SomePlayable t.old grid.board player set_up.own set_up.opp }
     requires enough { most_nodes ≤ length room.old }
-    ensures { (s : Sheet) → Playable t.old board player s → HeldStones board s.set_up own opp → PlaysMoves s t.old moves.now room.old result t.new room.new }
+    ensures { (s : Sheet) → Playable t.old grid.board player s → HeldStones grid.board s.set_up set_up.own set_up.opp → PlaysMoves s t.old moves.now room.old result t.new room.new }
 {
     open_start(t);
     let root = cell_at(t, 0);
-    let mut mine = with_stone(own, board, root);
-    let mut theirs = opp;
-    let mut i = 0;
-    while i < moves.len() {
-        let cell = wide(moves[i]);
-        let place = i + 1;
-        let refused = refused_move(board, player, mine, theirs, cell);
-        if let Refusal::With(verdict) = refused {
-            return PlayedOut::Stopped { verdict, place };
-        }
+    let mut stones = Stones {
+        own: with_stone(set_up.own, grid, root),
+        opp: set_up.opp,
+    };
+    for (i, &moved) in moves.iter().enumerate() {
+        let cell = moved as usize;
+        checked_move(grid, player, stones, cell).map_err(|verdict| Stopped {
+            verdict,
+            place: i + 1,
+        })?;
         let answer = answer_to(t, cell);
-        mine = mine.with(board, answer);
-        theirs = theirs.with(board, cell);
+        stones.own = stones.own.with(grid, answer);
+        stones.opp = stones.opp.with(grid, cell);
         room[i] = answer as u32;
-        i += 1;
     }
-    PlayedOut::Played {
-        answers: i,
-        over: mine.joins(board, player),
-    }
+    Ok(PlayedOut {
+        answers: moves.len(),
+        over: stones.own.joins(grid, player),
+    })
 }

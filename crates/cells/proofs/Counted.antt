@@ -1,4 +1,4 @@
--- Going through the numbers 1 to n and keeping those of a set: how the list of a set's cells grows.
+-- Going through the numbers 1 to n and keeping those of a set: how many they are, and how the list of a set's cells grows.
 use mathlib.Core.Path.{◌≡◌, refl, sym, ap, ◌∙◌, subst}
 use mathlib.Core.Bool.{Bool, true, false}
 use mathlib.Core.Logic.{inl, inr}
@@ -15,9 +15,7 @@ use Rattle.rules.specs.Words.{keep, up_to}
 use Rattle.rules.specs.Board.{cells, listed}
 use Rattle.rules.specs.declared.Board.{Board}
 use Rattle.rules.proofs.Tests.{holds_of, decide}
-use Rattle.cells.specs.Cells.{Fits, Listed}
-use Rattle.cells.proofs.Fill.{done}
-use Rattle.cells.proofs.Places.{few_cells}
+use Rattle.cells.specs.Cells.{Listed}
 use Rattle.cells.proofs.Smallest.{keep_one, keep_none}
 
 pub kept_start : (p : ℕ → Bool) → keep p (up_to 0) ≡ []
@@ -25,12 +23,6 @@ unfolding keep up_to
 kept_start p = refl
 
 module _ (p : ℕ → Bool) (n : ℕ) where
-  pub kept_more : p (n + 1) ≡ true → keep p (up_to (n + 1)) ≡ keep p (up_to n) ++ (n + 1) ∷ []
-  kept_more e = rw add-one (keep_one p n (holds_of (rw add-one at e)))
-
-  pub kept_same : p (n + 1) ≡ false → keep p (up_to (n + 1)) ≡ keep p (up_to n)
-  kept_same e = rw add-one (keep_none p n (λ t. subst T (rw add-one at e) t))
-
   -- no more are kept of fewer numbers
   kept_le : length (keep p (up_to n)) ≤ length (keep p (up_to (suc n)))
   kept_le = elim (decide (p (suc n))) [
@@ -50,83 +42,81 @@ kept_mono p m (suc n) h = go (dec_le m n) (λ k. kept_mono p m n k)
         let e : m ≡ suc n = omega arith in
         rw e (le_refl (length (keep p (up_to (suc n)))))
 
--- i of the board's numbers are gone through, and n of them are of the set
-pub record Counting (b : Board) (p : ℕ → Bool) (end i n : ℕ) : Type 0 where
-  pub within : i ≤ end
-  pub few : end ≤ 361
-  pub whole : end ≡ b.columns * b.rows
+-- the numbers up to i are gone through, and n of them are of the set
+pub record Counting (p : ℕ → Bool) (i n : ℕ) : Type 0 where
   pub low : n ≤ i
   pub counted : n ≡ length (keep p (up_to i))
 
-module _ (b : Board) (p : ℕ → Bool) where
-  pub counting_start : Fits b → Counting b p (b.columns * b.rows) 0 0
-  counting_start f =
-      record { within = omega arith; few = few_cells b f; whole = refl; low = omega arith; counted = ap length (sym (kept_start p)) }
+pub counting_start : (p : ℕ → Bool) → Counting p 0 0
+counting_start p = record { low = omega arith; counted = ap length (sym (kept_start p)) }
 
-  module _ (end i n : ℕ) (t : Counting b p end i n) (l : i < end) where
-    pub counting_more : p (i + 1) ≡ true → Counting b p end (i + 1) (n + 1)
-    counting_more e =
-        record {
-          within = omega arith;
-          few = t.few;
-          whole = t.whole;
-          low = omega arith;
-          counted = omega (arith, t.counted, ap length (kept_more p i e), length-append (keep p (up_to i)) ((i + 1) ∷ []));
-        }
+-- the next number x, which the code looks at: it is counted, or passed
+module _ {p : ℕ → Bool} {i n : ℕ} (c : Counting p i n) (x j : ℕ) (next : x ≡ suc i) (passed : j ≡ suc i) where
+  kept : p x ≡ true → keep p (up_to (suc i)) ≡ keep p (up_to i) ++ suc i ∷ []
+  kept e = keep_one p i (holds_of (rw next at e))
 
-    pub counting_same : p (i + 1) ≡ false → Counting b p end (i + 1) n
-    counting_same e =
-        record { within = omega arith; few = t.few; whole = t.whole; low = omega arith; counted = t.counted ∙ ap length (sym (kept_same p i e)) }
+  same : p x ≡ false → keep p (up_to (suc i)) ≡ keep p (up_to i)
+  same e = keep_none p i (λ t. subst T (rw next at e) t)
 
-    -- there is room for one more where there is room for all
-    pub counting_room : (most : ℕ) → length (listed b p) ≤ most → p (i + 1) ≡ true → n < most
-    unfolding listed cells
-    counting_room most h e =
-        omega (arith, (counting_more e).counted, ap (λ (m : ℕ). length (keep p (up_to m))) t.whole, kept_mono p (i + 1) end (omega arith))
+  one_more : p x ≡ true → n + 1 ≡ length (keep p (up_to (suc i)))
+  one_more e = omega (arith, ap length (kept e), length-append (keep p (up_to i)) (suc i ∷ []), c.counted)
 
-  -- all are gone through
-  pub counting_end : (end i n : ℕ) → Counting b p end i n → end ≤ i → keep p (up_to i) ≡ listed b p
-  unfolding listed cells
-  counting_end end i n t l = ap (λ (m : ℕ). keep p (up_to m)) (done end i t.within l ∙ t.whole)
+  pub counting_more : p x ≡ true → Counting p j (n + 1)
+  counting_more e = rw passed record { low = omega (arith, c.low); counted = one_more e }
 
--- n places of the room are written
-pub record Writing (b : Board) (p : ℕ → Bool) (end i n : ℕ) (room room' : List ℕ) : Type 0 where
-  pub counting : Counting b p end i n
+  pub counting_same : p x ≡ false → Counting p j n
+  counting_same e = rw passed record { low = omega (arith, c.low); counted = c.counted ∙ ap length (sym (same e)) }
+
+-- all are counted
+pub counting_end : (b : Board) {p : ℕ → Bool} {i n : ℕ} → Counting p i n → i ≡ b.columns * b.rows → n ≡ length (listed b p)
+unfolding listed cells
+counting_end b {p} c e = c.counted ∙ ap (λ (m : ℕ). length (keep p (up_to m))) e
+
+-- the n of them stand in the first places of the room
+pub record Writing (p : ℕ → Bool) (i n : ℕ) (room room' : List ℕ) : Type 0 where
+  pub counting : Counting p i n
   pub long : length room' ≡ length room
   pub written : room' ≡ keep p (up_to i) ++ drop n room
 
-module _ (b : Board) (p : ℕ → Bool) (room : List ℕ) where
-  pub writing_start : Fits b → Writing b p (b.columns * b.rows) 0 0 room room
-  writing_start f = record { counting = counting_start b p f; long = refl; written = ap (λ (l : List ℕ). l ++ room) (sym (kept_start p)) }
+pub writing_start : (p : ℕ → Bool) (room : List ℕ) → Writing p 0 0 room room
+writing_start p room = record { counting = counting_start p; long = refl; written = ap (λ (l : List ℕ). l ++ room) (sym (kept_start p)) }
 
-  module _ (end i n : ℕ) (room' : List ℕ) (w : Writing b p end i n room room') where
-    module _ (l : i < end) where
-      -- there is room for one more where there is room for all
-      pub writing_room : length (listed b p) ≤ length room → p (i + 1) ≡ true → n < length room'
-      writing_room h e = omega (arith, w.long, counting_room b p end i n w.counting l (length room) h e)
+-- the next number is written, where there is room for all, or passed
+module _ (b : Board) {p : ℕ → Bool} {room room' : List ℕ} {i n : ℕ} (w : Writing p i n room room') (x j : ℕ) (next : x ≡ suc i) (passed : j ≡ suc i) where
+  module _ (on : x ≤ b.columns * b.rows) (most : length (listed b p) ≤ length room) (e : p x ≡ true) where
+    fits : n < length room
+    unfolding listed cells
+    fits = omega (arith, one_more w.counting x j next passed e, kept_mono p (suc i) (b.columns * b.rows) (omega (arith, on, next)), most)
 
-      pub writing_more : length (listed b p) ≤ length room → p (i + 1) ≡ true → Writing b p end (i + 1) (n + 1) room (set room' n (i + 1))
-      writing_more h e =
-          record {
-            counting = counting_more b p end i n w.counting l e;
-            long = length-set room' n (i + 1) ∙ w.long;
-            written =
-                ap (λ (x : List ℕ). set x n (i + 1)) (w.written ∙ ap (λ (x : List ℕ). keep p (up_to i) ++ x) (drop-cons room n 0 (counting_room b p end i n w.counting l (length room) h e)))
-                ∙ set_at (keep p (up_to i)) (get_or room n 0) (drop (suc n) room) (i + 1) n (sym w.counting.counted)
-                ∙ sym (rw (kept_more p i e, add-one n) (append_snoc (keep p (up_to i)) (i + 1) (drop (suc n) room)));
-          }
+    pub writing_room : n < length room'
+    writing_room = omega (arith, w.long, fits)
 
-      pub writing_same : p (i + 1) ≡ false → Writing b p end (i + 1) n room room'
-      writing_same e =
-          record {
-            counting = counting_same b p end i n w.counting l e;
-            long = w.long;
-            written = w.written ∙ ap (λ (x : List ℕ). x ++ drop n room) (sym (kept_same p i e));
-          }
+    pub writing_more : Writing p j (n + 1) room (set room' n x)
+    writing_more =
+        record {
+          counting = counting_more w.counting x j next passed e;
+          long = length-set room' n x ∙ w.long;
+          written =
+              rw (passed, next)
+              (ap (λ (l : List ℕ). set l n (suc i)) (w.written ∙ ap (λ (l : List ℕ). keep p (up_to i) ++ l) (drop-cons room n 0 fits))
+              ∙ set_at (keep p (up_to i)) (get_or room n 0) (drop (suc n) room) (suc i) n (sym w.counting.counted)
+              ∙ sym (rw (kept w.counting x j next passed e, add-one n) (append_snoc (keep p (up_to i)) (suc i) (drop (suc n) room))));
+        }
 
-    -- all are written
-    pub writing_end : end ≤ i → Listed (listed b p) room room' n
-    writing_end l =
-        let e : keep p (up_to i) ≡ listed b p = counting_end b p end i n w.counting l in
-        let q : n ≡ length (listed b p) = w.counting.counted ∙ ap length e in
-        record { number = q; written = w.written ∙ ap (λ (x : List ℕ). x ++ drop n room) e ∙ ap (λ (m : ℕ). listed b p ++ drop m room) q }
+  pub writing_same : p x ≡ false → Writing p j n room room'
+  writing_same e =
+      record {
+        counting = counting_same w.counting x j next passed e;
+        long = w.long;
+        written = rw passed (w.written ∙ ap (λ (l : List ℕ). l ++ drop n room) (sym (same w.counting x j next passed e)));
+      }
+
+-- all are written
+pub writing_end : (b : Board) {p : ℕ → Bool} {room room' : List ℕ} {i n : ℕ} → Writing p i n room room' → i ≡ b.columns * b.rows → Listed (listed b p) room room' n
+unfolding listed cells
+writing_end b {p} {room} {room'} {i} {n} w e =
+    let q = counting_end b w.counting e in
+    record {
+      number = q;
+      written = w.written ∙ ap (λ (m : ℕ). keep p (up_to m) ++ drop n room) e ∙ ap (λ (m : ℕ). keep p (up_to (b.columns * b.rows)) ++ drop m room) q;
+    }

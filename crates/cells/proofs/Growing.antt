@@ -8,7 +8,7 @@ use native.Mathlib.Numerals.{add-one, sub-one}
 use native.Mathlib.Omega.{arith}
 use lib.ListN.{length, get_or, set, length-set}
 use lib.Seq.{get_or-set_same, get_or-set_other}
-use Rattle.cells.specs.Cells.{digit}
+use Rattle.std.specs.Int.{bit_at}
 use Rattle.cells.specs.Rows.{In}
 use Rattle.cells.specs.Growing.{grown_row, to_up, to_up_right, Linked, own, Framed, Closure}
 use Rattle.cells.proofs.Grown.{grown_at, at_le, at_keeps, at_linked, TakesNone, takes_none, takes_none_on, none_up, none_up_right, top_keeps, closed, linked_through}
@@ -85,8 +85,8 @@ module _ {s a words : List ℕ} {row : ℕ} (g : Settled s a (suc row) words) (f
   grows rows row' fr w none =
       record {
         kept = record { long = length-set words (suc row) (grown_at s words row) ∙ g.kept.long; fits = λ k. by_row k (λ (i x : ℕ). x < 2 ^ 32) (λ _. w) (g.kept.fits k) };
-        sound = λ c k. by_row k (λ (i x : ℕ). digit x c ≡ 1 → Linked s a c i) (λ _ e. linked_through g.sound (at_linked s words row rows fr c e)) (g.sound c k);
-        holds = λ c k i. by_row k (λ (i x : ℕ). digit x c ≡ 1) (λ same. at_keeps s words row c (g.holds c (suc row) (subst (In a c) same i))) (g.holds c k i);
+        sound = λ c k. by_row k (λ (i x : ℕ). bit_at x c ≡ 1 → Linked s a c i) (λ _ e. linked_through g.sound (at_linked s words row rows fr c e)) (g.sound c k);
+        holds = λ c k i. by_row k (λ (i x : ℕ). bit_at x c ≡ 1) (λ same. at_keeps s words row c (g.holds c (suc row) (subst (In a c) same i))) (g.holds c k i);
         settled = none;
       }
 

@@ -9,30 +9,31 @@ use native.Mathlib.Omega.{arith}
 use lib.Bits.{bit_and, bit_or, or_add_and, and_le_l, and_le_r}
 use lib.Count.{count_trailing_zeros}
 use lib.ListN.{get_or}
-use Rattle.cells.specs.Cells.{digit}
+use Rattle.std.specs.Int.{bit_at}
 use Rattle.cells.specs.Rows.{In}
 use Rattle.cells.specs.Growing.{around, grown_row, Near, to_left, to_right, to_up, to_down, to_up_right, to_down_left, Linked, own, next, Framed}
-use Rattle.cells.proofs.Smallest.{trailing_one}
-use Rattle.cells.proofs.Digits.{or_l, or_r, or_one, and_both, and_l, and_r, digit_half, digit_double, digit_double_zero, digit_mod}
+use Rattle.cells.proofs.Smallest.{lowest_bit}
+use Rattle.cells.proofs.Bits.{or_l, or_r, or_one, and_both, and_l, and_r, bit_double, bit_double_zero, bit_mod}
+use Rattle.std.proofs.lemmas.Nat.Bits.{bit_at-suc}
 
 -- which places of a row touch
 data Touch (u h d : ℕ) : ℕ → Type 0 where
-  from_left : {c : ℕ} → digit h c ≡ 1 → Touch u h d (suc c)
-  from_right : {c : ℕ} → digit h (suc c) ≡ 1 → Touch u h d c
-  from_up : {c : ℕ} → digit u c ≡ 1 → Touch u h d c
-  from_up_right : {c : ℕ} → digit u (suc c) ≡ 1 → Touch u h d c
-  from_down : {c : ℕ} → digit d c ≡ 1 → Touch u h d c
-  from_down_left : {c : ℕ} → digit d c ≡ 1 → Touch u h d (suc c)
+  from_left : {c : ℕ} → bit_at h c ≡ 1 → Touch u h d (suc c)
+  from_right : {c : ℕ} → bit_at h (suc c) ≡ 1 → Touch u h d c
+  from_up : {c : ℕ} → bit_at u c ≡ 1 → Touch u h d c
+  from_up_right : {c : ℕ} → bit_at u (suc c) ≡ 1 → Touch u h d c
+  from_down : {c : ℕ} → bit_at d c ≡ 1 → Touch u h d c
+  from_down_left : {c : ℕ} → bit_at d c ≡ 1 → Touch u h d (suc c)
 
--- a digit of a word shifted up by one place
-up_in : (a k : ℕ) → suc k < 32 → digit a k ≡ 1 → digit (a * 2 % 2 ^ 32) (suc k) ≡ 1
-up_in a k l e = digit_mod 32 (a * 2) (suc k) l ∙ digit_double a k ∙ e
+-- a bit of a word shifted up by one place
+up_in : (a k : ℕ) → suc k < 32 → bit_at a k ≡ 1 → bit_at (a * 2 % 2 ^ 32) (suc k) ≡ 1
+up_in a k l e = bit_mod 32 (a * 2) (suc k) l ∙ bit_double a k ∙ e
 
-up_out : (a c : ℕ) (P : ℕ → Type 0) → ((k : ℕ) → digit a k ≡ 1 → P (suc k)) → c < 32 → digit (a * 2 % 2 ^ 32) c ≡ 1 → P c
+up_out : (a c : ℕ) (P : ℕ → Type 0) → ((k : ℕ) → bit_at a k ≡ 1 → P (suc k)) → c < 32 → bit_at (a * 2 % 2 ^ 32) c ≡ 1 → P c
 up_out a zero P f l e =
-    let z : ◌≡◌ {A = ℕ} 0 1 = sym (digit_double_zero a) ∙ sym (digit_mod 32 (a * 2) 0 l) ∙ e in
+    let z : ◌≡◌ {A = ℕ} 0 1 = sym (bit_double_zero a) ∙ sym (bit_mod 32 (a * 2) 0 l) ∙ e in
     absurd (omega arith)
-up_out a (suc k) P f l e = f k (sym (digit_double a k) ∙ sym (digit_mod 32 (a * 2) (suc k) l) ∙ e)
+up_out a (suc k) P f l e = f k (sym (bit_double a k) ∙ sym (bit_mod 32 (a * 2) (suc k) l) ∙ e)
 
 abbrev sides : ℕ → ℕ
 sides h = bit_or (h * 2 % 2 ^ 32) (h / 2)
@@ -44,39 +45,39 @@ abbrev below : ℕ → ℕ
 below d = bit_or d (d * 2 % 2 ^ 32)
 
 module _ (u h d c : ℕ) where
-  by_sides : digit (sides h) c ≡ 1 → digit (around u h d) c ≡ 1
+  by_sides : bit_at (sides h) c ≡ 1 → bit_at (around u h d) c ≡ 1
   unfolding around
   by_sides e = or_l (sides h) (bit_or (above u) (below d)) c e
 
-  by_above : digit (above u) c ≡ 1 → digit (around u h d) c ≡ 1
+  by_above : bit_at (above u) c ≡ 1 → bit_at (around u h d) c ≡ 1
   unfolding around
   by_above e = or_r (sides h) (bit_or (above u) (below d)) c (or_l (above u) (below d) c e)
 
-  by_below : digit (below d) c ≡ 1 → digit (around u h d) c ≡ 1
+  by_below : bit_at (below d) c ≡ 1 → bit_at (around u h d) c ≡ 1
   unfolding around
   by_below e = or_r (sides h) (bit_or (above u) (below d)) c (or_r (above u) (below d) c e)
 
-touch_in : (u h d c : ℕ) → c < 32 → Touch u h d c → digit (around u h d) c ≡ 1
+touch_in : (u h d c : ℕ) → c < 32 → Touch u h d c → bit_at (around u h d) c ≡ 1
 touch_in u h d (suc c) l (from_left e) = by_sides u h d (suc c) (or_l (h * 2 % 2 ^ 32) (h / 2) (suc c) (up_in h c l e))
-touch_in u h d c l (from_right e) = by_sides u h d c (or_r (h * 2 % 2 ^ 32) (h / 2) c (digit_half h c ∙ e))
+touch_in u h d c l (from_right e) = by_sides u h d c (or_r (h * 2 % 2 ^ 32) (h / 2) c (sym (bit_at-suc h c) ∙ e))
 touch_in u h d c l (from_up e) = by_above u h d c (or_l u (u / 2) c e)
-touch_in u h d c l (from_up_right e) = by_above u h d c (or_r u (u / 2) c (digit_half u c ∙ e))
+touch_in u h d c l (from_up_right e) = by_above u h d c (or_r u (u / 2) c (sym (bit_at-suc u c) ∙ e))
 touch_in u h d c l (from_down e) = by_below u h d c (or_l d (d * 2 % 2 ^ 32) c e)
 touch_in u h d (suc c) l (from_down_left e) = by_below u h d (suc c) (or_r d (d * 2 % 2 ^ 32) (suc c) (up_in d c l e))
 
-touch_out : (u h d c : ℕ) → c < 32 → digit (around u h d) c ≡ 1 → Touch u h d c
+touch_out : (u h d c : ℕ) → c < 32 → bit_at (around u h d) c ≡ 1 → Touch u h d c
 unfolding around
 touch_out u h d c l e =
     ⊎_elim
-    (λ p. ⊎_elim (up_out h c (Touch u h d) (λ k q. from_left q) l) (λ q. from_right (sym (digit_half h c) ∙ q)) (or_one _ _ c p))
+    (λ p. ⊎_elim (up_out h c (Touch u h d) (λ k q. from_left q) l) (λ q. from_right (bit_at-suc h c ∙ q)) (or_one _ _ c p))
     (λ p.
     ⊎_elim
-    (λ q. ⊎_elim (λ r. from_up r) (λ r. from_up_right (sym (digit_half u c) ∙ r)) (or_one _ _ c q))
+    (λ q. ⊎_elim (λ r. from_up r) (λ r. from_up_right (bit_at-suc u c ∙ r)) (or_one _ _ c q))
     (λ q. ⊎_elim (λ r. from_down r) (up_out d c (Touch u h d) (λ k r. from_down_left r) l) (or_one _ _ c q))
     (or_one _ _ c p))
     (or_one _ _ c e)
 
-row_keeps : (s u h d c : ℕ) → digit h c ≡ 1 → digit (grown_row s u h d) c ≡ 1
+row_keeps : (s u h d c : ℕ) → bit_at h c ≡ 1 → bit_at (grown_row s u h d) c ≡ 1
 unfolding grown_row
 row_keeps s u h d c e = or_l h (bit_and s (around u h d)) c e
 
@@ -86,11 +87,11 @@ row_le s u h d =
     let t : ℕ = bit_and s (around u h d) in
     omega (arith, or_add_and h t, and_le_r h t)
 
-row_takes : (s u h d c : ℕ) → c < 32 → digit s c ≡ 1 → Touch u h d c → digit (grown_row s u h d) c ≡ 1
+row_takes : (s u h d c : ℕ) → c < 32 → bit_at s c ≡ 1 → Touch u h d c → bit_at (grown_row s u h d) c ≡ 1
 unfolding grown_row
 row_takes s u h d c l e t = or_r h (bit_and s (around u h d)) c (and_both s (around u h d) c e (touch_in u h d c l t))
 
-row_out : (s u h d c : ℕ) → digit (grown_row s u h d) c ≡ 1 → (digit h c ≡ 1) ⊎ ((digit s c ≡ 1) × (digit (around u h d) c ≡ 1))
+row_out : (s u h d c : ℕ) → bit_at (grown_row s u h d) c ≡ 1 → (bit_at h c ≡ 1) ⊎ ((bit_at s c ≡ 1) × (bit_at (around u h d) c ≡ 1))
 unfolding grown_row
 row_out s u h d c e = ⊎_elim (λ p. inl p) (λ p. inr (and_l s (around u h d) c p, and_r s (around u h d) c p)) (or_one h (bit_and s (around u h d)) c e)
 
@@ -103,7 +104,7 @@ module _ (s a : List ℕ) (k : ℕ) where
   pub at_le : get_or a (suc k) 0 ≤ grown_at s a k
   at_le = row_le (get_or s (suc k) 0) (get_or a k 0) (get_or a (suc k) 0) (get_or a (suc (suc k)) 0)
 
-  pub at_keeps : (c : ℕ) → In a c (suc k) → digit (grown_at s a k) c ≡ 1
+  pub at_keeps : (c : ℕ) → In a c (suc k) → bit_at (grown_at s a k) c ≡ 1
   at_keeps c e = row_keeps (get_or s (suc k) 0) (get_or a k 0) (get_or a (suc k) 0) (get_or a (suc (suc k)) 0) c e
 
   -- the places that touch the row are those beside a place that is there
@@ -128,14 +129,14 @@ module _ (s a : List ℕ) (k : ℕ) where
 
   module _ (rows : ℕ) (fr : Framed rows s) (c : ℕ) where
     -- what the row then holds is linked to what was there
-    pub at_linked : digit (grown_at s a k) c ≡ 1 → Linked s a c (suc k)
+    pub at_linked : bit_at (grown_at s a k) c ≡ 1 → Linked s a c (suc k)
     at_linked e =
         ⊎_elim (λ p. own p)
         (λ p. touch_linked c p.0 (touch_out (get_or a k 0) (get_or a (suc k) 0) (get_or a (suc (suc k)) 0) c (fr.inside c (suc k) p.0).2 p.1))
         (row_out (get_or s (suc k) 0) (get_or a k 0) (get_or a (suc k) 0) (get_or a (suc (suc k)) 0) c e)
 
     -- a cell of s beside one that is there is taken in
-    pub at_takes : (d r : ℕ) → In a d r → Near d r c (suc k) → In s c (suc k) → digit (grown_at s a k) c ≡ 1
+    pub at_takes : (d r : ℕ) → In a d r → Near d r c (suc k) → In s c (suc k) → bit_at (grown_at s a k) c ≡ 1
     at_takes d r e n i =
         row_takes (get_or s (suc k) 0) (get_or a k 0) (get_or a (suc k) 0) (get_or a (suc (suc k)) 0) c (fr.inside c (suc k) i).2 i (near_touch e n)
 
@@ -145,7 +146,7 @@ TakesNone s a k = (c d r : ℕ) → In a d r → Near d r c (suc k) → In s c (
 
 -- so it is where the row grows to itself
 pub takes_none : (rows : ℕ) (s a : List ℕ) (k : ℕ) → Framed rows s → grown_at s a k ≡ get_or a (suc k) 0 → TakesNone s a k
-takes_none rows s a k fr e c d r i n j = subst (λ (x : ℕ). digit x c ≡ 1) e (at_takes s a k rows fr c d r i n j)
+takes_none rows s a k fr e c d r i n j = subst (λ (x : ℕ). bit_at x c ≡ 1) e (at_takes s a k rows fr c d r i n j)
 
 -- and still where another row stands below it, from which it takes nothing in
 pub takes_none_on : (s a b : List ℕ) (k : ℕ) → TakesNone s a k → ((r : ℕ) → r ≤ suc k → get_or b r 0 ≡ get_or a r 0)
@@ -163,12 +164,12 @@ takes_none_on s a b k none same up up_right c d r i n j = rw (same (suc k) (le_r
 
 -- as where it grows to itself from that row
 module _ (rows : ℕ) (s : List ℕ) (fr : Framed rows s) (k h d : ℕ) (e : grown_row (get_or s (suc k) 0) 0 h d ≡ h) (c : ℕ) where
-  pub none_up : digit d c ≡ 1 → In s c (suc k) → digit h c ≡ 1
-  none_up i j = subst (λ (x : ℕ). digit x c ≡ 1) e (row_takes (get_or s (suc k) 0) 0 h d c (fr.inside c (suc k) j).2 j (from_down i))
+  pub none_up : bit_at d c ≡ 1 → In s c (suc k) → bit_at h c ≡ 1
+  none_up i j = subst (λ (x : ℕ). bit_at x c ≡ 1) e (row_takes (get_or s (suc k) 0) 0 h d c (fr.inside c (suc k) j).2 j (from_down i))
 
-  pub none_up_right : digit d c ≡ 1 → In s (suc c) (suc k) → digit h (suc c) ≡ 1
+  pub none_up_right : bit_at d c ≡ 1 → In s (suc c) (suc k) → bit_at h (suc c) ≡ 1
   none_up_right i j =
-      subst (λ (x : ℕ). digit x (suc c) ≡ 1) e (row_takes (get_or s (suc k) 0) 0 h d (suc c) (fr.inside (suc c) (suc k) j).2 j (from_down_left i))
+      subst (λ (x : ℕ). bit_at x (suc c) ≡ 1) e (row_takes (get_or s (suc k) 0) 0 h d (suc c) (fr.inside (suc c) (suc k) j).2 j (from_down_left i))
 
 -- a set none of whose rows takes anything in has all that its start is linked to
 pub closed : (rows : ℕ) (s a r : List ℕ) → Framed rows s → ((k : ℕ) → k < rows → TakesNone s r k) → ((c k : ℕ) → In a c k → In r c k)
@@ -185,7 +186,7 @@ top_keeps rows s h d fr w =
     let t : ℕ = bit_and (get_or s 0 0) (around 0 h d) in
     let small : t < 2 ^ 32 = omega (arith, w, or_add_and h t, and_le_l h t) in
     let nothing : 0 < t → ⊥ =
-    λ p. not-suc-le-zero (fr.inside (count_trailing_zeros 32 t) 0 (and_l (get_or s 0 0) (around 0 h d) (count_trailing_zeros 32 t) (trailing_one 32 t small p))).0 in
+    λ p. not-suc-le-zero (fr.inside (count_trailing_zeros 32 t) 0 (and_l (get_or s 0 0) (around 0 h d) (count_trailing_zeros 32 t) (lowest_bit t p small))).0 in
     go (dec_lt 0 t) nothing
   where
     go : Dec (0 < bit_and (get_or s 0 0) (around 0 h d)) → (0 < bit_and (get_or s 0 0) (around 0 h d) → ⊥) → bit_or h (bit_and (get_or s 0 0) (around 0 h d)) ≡ h

@@ -1,8 +1,7 @@
 -- The laws that belong to no one function.
 pub mod Blocks
 pub mod Counted
-pub mod Digits
-pub mod Fill
+pub mod Bits
 pub mod Grown
 pub mod Held
 pub mod InRows
@@ -10,7 +9,7 @@ pub mod Neighbours
 pub mod Places
 pub mod Reached
 pub mod Room
-pub mod Sides
+pub mod OnSides
 pub mod Smallest
 pub mod Beyond
 pub mod Words

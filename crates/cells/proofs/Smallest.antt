@@ -3,13 +3,14 @@ use Rattle.std.specs.Prelude.{if◌then◌else◌}
 use mathlib.Core.Path.{◌≡◌, refl, sym, ap, ◌∙◌, subst}
 use mathlib.Core.Bool.{Bool}
 use mathlib.Core.List.{List, [], ◌∷◌, ◌++◌, append-nil}
-use Prim.Native.Nat.{ℕ, zero, suc, ◌+◌, ◌-◌, ◌*◌, ◌/◌, ◌%◌, ◌^◌, ◌<◌, ◌≤◌, zero-le, suc-le-suc}
-use native.Mathlib.Nat.{pos_of_ne-zero, mul-le-mul_right, suc-mul, pow-suc}
-use native.Mathlib.Decide.{ℕ_discrete, dec_lt}
+use Prim.Native.Nat.{ℕ, zero, suc, ◌+◌, ◌-◌, ◌*◌, ◌^◌, ◌<◌, ◌≤◌}
+use native.Mathlib.Nat.{pos_of_ne-zero, mul-le-mul_right, suc-mul}
+use native.Mathlib.Decide.{ℕ_discrete, dec_lt, dec_le}
 use native.Mathlib.Omega.{arith}
-use lib.Count.{count_trailing_zeros, under}
+use lib.Count.{count_trailing_zeros}
 use lib.Dec.{T}
 use lib.ListN.{get_or}
+use Rattle.std.specs.Int.{bit_at}
 use Rattle.rules.specs.Words.{keep, up_to, first_or_none}
 use Rattle.rules.specs.Board.{On, is_cell, cells, cell_at, column_of, row_of, listed, smallest}
 use Rattle.rules.specs.declared.Board.{Board}
@@ -17,9 +18,11 @@ use Rattle.rules.proofs.Tests.{true_of, false_of}
 use Rattle.rules.proofs.Lists.{keep_append}
 use Rattle.rules.proofs.Smallest.{smallest_some, smallest_zero, smallest_is}
 use Rattle.rules.proofs.Places.{range_cell, cell_place, at_place, column_at, row_at, cell_at_lem}
-use Rattle.cells.specs.Cells.{digit, held, Fits}
+use Rattle.cells.specs.Cells.{held, Fits}
 use Rattle.cells.specs.Rows.{In, Clipped}
-use Rattle.cells.proofs.Digits.{digit_half, digit_zero}
+use Rattle.cells.proofs.Bits.{no_bit}
+use Rattle.std.proofs.lemmas.Nat.Bits.{bit_at-trailing_zeros}
+use Rattle.std.specs.Int.{w32}
 use Rattle.cells.proofs.Held.{held_cell, held_in, in_held}
 
 -- ---- the first of what is kept
@@ -66,35 +69,23 @@ smallest_held b set h = go (smallest b set) refl
         let t = smallest_some b set k e in
         (subst (λ (x : ℕ). T (is_cell b x)) (sym e) t.is_cell_lem, subst (λ (x : ℕ). T (set x)) (sym e) t.in_set)
 
--- ---- the lowest digit of a word
+-- ---- the lowest bit of a word
 
-pub trailing_one : (k n : ℕ) → n < 2 ^ k → 0 < n → digit n (count_trailing_zeros k n) ≡ 1
-unfolding count_trailing_zeros
-trailing_one zero n h l = omega arith
-trailing_one (suc k) n h l = go (n % 2) refl (λ p. trailing_one k (n / 2) p)
-  where
-    go : (d : ℕ) → n % 2 ≡ d → (n / 2 < 2 ^ k → 0 < n / 2 → digit (n / 2) (count_trailing_zeros k (n / 2)) ≡ 1) → digit n (under d (count_trailing_zeros k (n / 2))) ≡ 1
-    go zero e ih = sym (digit_half n (count_trailing_zeros k (n / 2))) ∙ ih (omega (arith, pow-suc 2 k)) (omega arith)
-    go (suc d) e ih = omega arith
+module _ (n : ℕ) (some : 0 < n) (word : n < 2 ^ 32) where
+  pub lowest_bit : bit_at n (count_trailing_zeros 32 n) ≡ 1
+  lowest_bit = (bit_at-trailing_zeros w32 n some word).1
 
-trailing_low : (k n j : ℕ) → digit n j ≡ 1 → count_trailing_zeros k n ≤ j
-unfolding count_trailing_zeros
-trailing_low zero n j e = zero-le
-trailing_low (suc k) n zero e = go (n % 2) refl
-  where
-    go : (d : ℕ) → n % 2 ≡ d → under d (count_trailing_zeros k (n / 2)) ≤ 0
-    go zero q = omega arith
-    go (suc d) q = zero-le
-trailing_low (suc k) n (suc j) e = go (n % 2) (trailing_low k (n / 2) j (digit_half n j ∙ e))
-  where
-    go : (d : ℕ) → count_trailing_zeros k (n / 2) ≤ j → under d (count_trailing_zeros k (n / 2)) ≤ suc j
-    go zero h = suc-le-suc h
-    go (suc d) h = zero-le
+  lowest_le : (j : ℕ) → bit_at n j ≡ 1 → count_trailing_zeros 32 n ≤ j
+  lowest_le j e = go (dec_le (count_trailing_zeros 32 n) j)
+    where
+      go : Dec (count_trailing_zeros 32 n ≤ j) → count_trailing_zeros 32 n ≤ j
+      go (yes l) = l
+      go (no l) = absurd (omega (arith, (bit_at-trailing_zeros w32 n some word).2 j (omega arith)))
 
 -- ---- the first row that is not empty
 
 module _ (b : Board) (s t : List ℕ) (fits : Fits b) (cl : Clipped b s t) where
-  -- every held cell has its digit in the clipped words
+  -- every held cell has its bit in the clipped words
   clipped_in : (y : ℕ) → T (held b s y) → In t (column_of b y) (row_of b y)
   clipped_in y h = cl.inside (column_of b y) (row_of b y) (held_in b s y h) (cell_place b y fits.some_column (held_cell b s y h))
 
@@ -104,20 +95,20 @@ module _ (b : Board) (s t : List ℕ) (fits : Fits b) (cl : Clipped b s t) where
       smallest_zero b (held b s)
       (λ y i h.
       let o = cell_place b y fits.some_column i in
-      digit_zero (column_of b y) (rw (z (row_of b y) o.top o.bottom) at (clipped_in y h)))
+      no_bit (column_of b y) (rw (z (row_of b y) o.top o.bottom) at (clipped_in y h)))
 
   module _ (i : ℕ) (z : (k : ℕ) → 1 ≤ k → k < i → get_or t k 0 ≡ 0) (small : get_or t i 0 < 2 ^ 32) (some : get_or t i 0 ≡ 0 → ⊥) where
     abbrev low : ℕ
     low = count_trailing_zeros 32 (get_or t i 0)
 
     low_on : On b low i
-    low_on = (cl.only low i (trailing_one 32 (get_or t i 0) small (pos_of_ne-zero some))).1
+    low_on = (cl.only low i (lowest_bit (get_or t i 0) (pos_of_ne-zero some) small)).1
 
     low_held : T (held b s (cell_at b low i))
     low_held =
         let o = low_on in
         in_held b s (cell_at b low i) (cell_at_lem b low i o)
-        (rw (column_at b low i o, row_at b low i o) (cl.only low i (trailing_one 32 (get_or t i 0) small (pos_of_ne-zero some))).0)
+        (rw (column_at b low i o, row_at b low i o) (cl.only low i (lowest_bit (get_or t i 0) (pos_of_ne-zero some) small)).0)
 
     -- a held cell stands no lower
     none_lower : (y : ℕ) → y < cell_at b low i → T (held b s y) → ⊥
@@ -134,9 +125,9 @@ module _ (b : Board) (s t : List ℕ) (fits : Fits b) (cl : Clipped b s t) where
         at = at_place b y (held_cell b s y h)
 
         go : Dec (row_of b y < i) → Dec (row_of b y ≡ i) → ⊥
-        go (yes k) q = digit_zero (column_of b y) (rw (z (row_of b y) o.top k) at here)
+        go (yes k) q = no_bit (column_of b y) (rw (z (row_of b y) o.top k) at here)
         go (no k) (yes q) =
-            let c : low ≤ column_of b y = trailing_low 32 (get_or t i 0) (column_of b y) (rw q at here) in
+            let c : low ≤ column_of b y = lowest_le (get_or t i 0) (pos_of_ne-zero some) small (column_of b y) (rw q at here) in
             let e : (row_of b y - 1) * b.columns ≡ (i - 1) * b.columns = ap (λ (n : ℕ). (n - 1) * b.columns) q in
             omega (arith, at)
         go (no k) (no q) =

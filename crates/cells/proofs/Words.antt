@@ -1,37 +1,40 @@
--- Digits of row words: of filled lists, of merged rows, of the empty set.
-use mathlib.Core.Path.{◌≡◌, refl, subst}
-use mathlib.Core.Bool.{true, false}
+-- Bits of row words: of sets made row by row, of the empty set.
+use mathlib.Core.Path.{◌≡◌, refl, sym, ◌∙◌, subst}
 use mathlib.Core.Logic.{◌⊎◌, ⊎_elim}
 use mathlib.Core.List.{List}
-use Prim.Native.Nat.{ℕ, zero, suc, ◌<◌}
-use native.Mathlib.Decide.{dec_lt}
+use Prim.Native.Nat.{ℕ, zero, suc, ◌+◌, ◌<◌, ◌≤◌}
+use native.Mathlib.Decide.{dec_lt, ℕ_discrete}
+use denote.Param.Members.{Mut}
+use Rattle.std.specs.Fn.{Called}
+use Rattle.std.specs.Array.{IsFromFnResultFrom}
 use native.Mathlib.Omega.{arith}
 use lib.Bits.{bit_and, bit_or}
 use lib.ListN.{length, get_or, replicate, get_or-eq_default}
-use Rattle.cells.specs.Cells.{digit}
-use Rattle.cells.specs.Rows.{In, fill, merged_rows}
-use Rattle.cells.proofs.Digits.{or_l, or_r, or_one, and_both, and_l, and_r, digit_zero}
-use Rattle.cells.proofs.Fill.{fill_below, fill_above}
+use Rattle.cells.specs.Rows.{In, RowByRow}
+use Rattle.cells.proofs.Bits.{no_bit, or_l, or_r, or_one, and_both, and_l, and_r}
 
--- a list of 21 rows has no cell beyond them
-pub in_long : (s : List ℕ) (c r : ℕ) → length s ≡ 21 → In s c r → r < 21
-in_long s c r long e = go (dec_lt r 21)
+-- a set that is made at each of its 21 rows is made row by row, since no set has more
+pub made_by_row : (f : ℕ → ℕ → ℕ) (s t u : List ℕ) → f 0 0 ≡ 0 → length s ≡ 21 → length t ≡ 21 → length u ≡ 21
+    → ((r : ℕ) → r < 21 → get_or u r 0 ≡ f (get_or s r 0) (get_or t r 0)) → RowByRow f s t u
+made_by_row f s t u z long-s long-t long-u h = record { row = λ r. go r (dec_lt r 21) }
   where
-    go : Dec (r < 21) → r < 21
-    go (yes l) = l
-    go (no l) = absurd (digit_zero c (rw (get_or-eq_default s 0 {n = r} (omega arith)) at e))
+    go : (r : ℕ) → Dec (r < 21) → get_or u r 0 ≡ f (get_or s r 0) (get_or t r 0)
+    go r (yes l) = h r l
+    go r (no l) =
+        rw (get_or-eq_default u 0 {n = r} (omega arith), get_or-eq_default s 0 {n = r} (omega arith), get_or-eq_default t 0 {n = r} (omega arith)) (sym z)
 
--- a row of a filled list of 21
-module _ (f : ℕ → ℕ) (s : List ℕ) (long : length s ≡ 21) (c r : ℕ) where
-  pub filled_in : r < 21 → digit (f r) c ≡ 1 → In (fill f 21 s) c r
-  filled_in l e = rw (fill_below f 21 s r l (omega arith)) e
-
-  pub filled_out : In (fill f 21 s) c r → digit (f r) c ≡ 1
-  filled_out e = go (dec_lt r 21)
-    where
-      go : Dec (r < 21) → digit (f r) c ≡ 1
-      go (yes l) = rw (fill_below f 21 s r l (omega arith)) at e
-      go (no l) = absurd (l (in_long s c r long (rw (fill_above f 21 s r (omega arith)) at e)))
+-- what `from_fn` makes by a closure that keeps its captures and gives h i at i
+pub from_fn_made : {F : Type 0} (g : Mut F (ℕ × Unit {0}) ℕ) (h : ℕ → ℕ) {f : F} → ((i y : ℕ) (q : F) → Called g f (i, tt) y q → (q ≡ f) × (y ≡ h i))
+    → (ys : List ℕ) (i n : ℕ) → IsFromFnResultFrom g f ys i n → (k : ℕ) → i ≤ k → k < i + n → get_or ys k 0 ≡ h k
+from_fn_made g h is ys i zero m k a b = absurd (omega arith)
+from_fn_made {F} g h {f} is ys i (suc n) (q, y, at, called, rest) k a b =
+    let gives : (q ≡ f) × (y ≡ h i) = is i y q called in
+    let others = from_fn_made g h is ys (i + 1) n (subst (λ (p : F). IsFromFnResultFrom g p ys (i + 1) n) gives.0 rest) k in
+    go (ℕ_discrete k i) (at.1 0 ∙ gives.1) (λ n. others (omega arith) (omega arith))
+  where
+    go : Dec (k ≡ i) → get_or ys i 0 ≡ h i → ((k ≡ i → ⊥) → get_or ys k 0 ≡ h k) → get_or ys k 0 ≡ h k
+    go (yes e) here there = rw e here
+    go (no n) here there = there n
 
 pub zeros : (n r : ℕ) → ◌≡◌ {A = ℕ} (get_or (replicate n 0) r 0) 0
 zeros zero zero = refl
@@ -40,22 +43,19 @@ zeros (suc n) zero = refl
 zeros (suc n) (suc r) = zeros n r
 
 pub in_empty : (c r : ℕ) → In (replicate 21 0) c r → ⊥
-in_empty c r e = digit_zero c (subst (λ (x : ℕ). digit x c ≡ 1) (zeros 21 r) e)
+in_empty c r e = no_bit c (rw (zeros 21 r) at e)
 
-module _ (s t : List ℕ) (long : length s ≡ 21) (long' : length t ≡ 21) (c r : ℕ) where
-  pub either_in : In s c r ⊎ In t c r → In (merged_rows true s t) c r
-  either_in h =
-      ⊎_elim (λ e. filled_in (λ k. bit_or (get_or s k 0) (get_or t k 0)) s long c r (in_long s c r long e) (or_l (get_or s r 0) (get_or t r 0) c e))
-      (λ e. filled_in (λ k. bit_or (get_or s k 0) (get_or t k 0)) s long c r (in_long t c r long' e) (or_r (get_or s r 0) (get_or t r 0) c e)) h
+module _ {s t u : List ℕ} (c r : ℕ) where
+  pub either_in : RowByRow bit_or s t u → In s c r ⊎ In t c r → In u c r
+  either_in m h = rw (m.row r) (⊎_elim (or_l (get_or s r 0) (get_or t r 0) c) (or_r (get_or s r 0) (get_or t r 0) c) h)
 
-  pub either_out : In (merged_rows true s t) c r → In s c r ⊎ In t c r
-  either_out e = or_one (get_or s r 0) (get_or t r 0) c (filled_out (λ k. bit_or (get_or s k 0) (get_or t k 0)) s long c r e)
+  pub either_out : RowByRow bit_or s t u → In u c r → In s c r ⊎ In t c r
+  either_out m e = or_one (get_or s r 0) (get_or t r 0) c (rw (m.row r) at e)
 
-  pub both_in : In s c r → In t c r → In (merged_rows false s t) c r
-  both_in e g =
-      filled_in (λ k. bit_and (get_or s k 0) (get_or t k 0)) s long c r (in_long s c r long e) (and_both (get_or s r 0) (get_or t r 0) c e g)
+  pub both_in : RowByRow bit_and s t u → In s c r → In t c r → In u c r
+  both_in m e g = rw (m.row r) (and_both (get_or s r 0) (get_or t r 0) c e g)
 
-  pub both_out : In (merged_rows false s t) c r → In s c r × In t c r
-  both_out e =
-      let d = filled_out (λ k. bit_and (get_or s k 0) (get_or t k 0)) s long c r e in
+  pub both_out : RowByRow bit_and s t u → In u c r → In s c r × In t c r
+  both_out m e =
+      let d = rw (m.row r) at e in
       (and_l (get_or s r 0) (get_or t r 0) c d, and_r (get_or s r 0) (get_or t r 0) c d)

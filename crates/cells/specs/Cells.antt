@@ -1,16 +1,13 @@
 -- A set of cells as 21 row words: which cells of a board it holds.
-use Rattle.std.specs.Prelude.{Bool, not, ◌&&◌, List, ◌++◌, ◌≡◌, ℕ, ◌+◌, ◌*◌, ◌/◌, ◌%◌, ◌^◌, ◌<◌, ◌≤◌, T, eqb, length, get_or, drop}
+use Rattle.std.specs.Prelude.{Bool, not, ◌&&◌, List, ◌++◌, ◌≡◌, ℕ, ◌+◌, ◌*◌, ◌<◌, ◌≤◌, T, eqb, length, get_or, drop}
+use Rattle.std.specs.Int.{bit_at}
 use Rattle.rules.specs.Words.{among, any, up_to}
 use Rattle.rules.specs.Board.{cells, is_cell, column_of, row_of}
 use Rattle.rules.specs.declared.Board.{Board}
 
--- the binary digit k of n
-abbrev pub digit : ℕ → ℕ → ℕ
-digit n k = n / 2 ^ k % 2
-
--- x is a cell of the board, and digit c of word r is set, where c is its column and r its row
+-- x is a cell of the board, and bit c of word r is set, where c is its column and r its row
 unfoldable pub held : Board → List ℕ → ℕ → Bool
-held b rows x = is_cell b x && eqb (digit (get_or rows (row_of b x) 0) (column_of b x)) 1
+held b rows x = is_cell b x && eqb (bit_at (get_or rows (row_of b x) 0) (column_of b x)) 1
 
 -- some cell of the board is in one set and not in the other
 unfoldable pub some_beyond : Board → (rows other : List ℕ) → Bool

@@ -26,7 +26,7 @@ pub data Linked (s a : List ℕ) : ℕ → ℕ → Type 0 where
   own : {c r : ℕ} → In a c r → Linked s a c r
   next : {c r c' r' : ℕ} → Linked s a c r → Near c r c' r' → In s c' r' → Linked s a c' r'
 
--- no place of s is in row 0 or beyond the first rows, nor above digit 31
+-- no place of s is in row 0 or beyond the first rows, nor above bit 31
 pub record Framed (rows : ℕ) (s : List ℕ) : Type 0 where
   pub inside : (c r : ℕ) → In s c r → (1 ≤ r) × (r ≤ rows) × (c < 32)
 

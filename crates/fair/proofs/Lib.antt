@@ -1,3 +1,4 @@
+pub mod FirstTold
 pub mod Found
 pub mod Laid
 pub mod Adding

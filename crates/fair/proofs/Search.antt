@@ -1,10 +1,10 @@
 -- The search for the first faulty node: a loop over the node numbers finds the fault that rules finds over the moves, or over the waits.
-use mathlib.Core.Path.{◌≡◌, refl, sym, ap, ap₂, fun_ext, subst, ◌∙◌}
-use mathlib.Core.Logic.{◌≢◌}
+use mathlib.Core.Path.{◌≡◌, refl, sym, ap, ap₂, fun_ext, subst, subst⁻¹, ◌∙◌}
+use mathlib.Core.Logic.{◌≢◌, ⊎_elim}
 use mathlib.Core.Bool.{Bool, true, false, true≢false}
 use mathlib.Core.Option.{Option, none, some}
-use Prim.Native.Nat.{ℕ, zero, suc, ◌+◌, ◌*◌, ◌<◌, ◌≤◌}
-use native.Mathlib.Nat.{mul-le-mul}
+use Prim.Native.Nat.{ℕ, zero, suc, ◌+◌, ◌-◌, ◌*◌, ◌<◌, ◌≤◌}
+use native.Mathlib.Nat.{eq-zero-or-pos, mul-le-mul}
 use native.Mathlib.Omega.{arith}
 use mathlib.Core.List.{List, [], ◌∷◌}
 use lib.Dec.{leb, leb→le}
@@ -22,13 +22,16 @@ use Rattle.nodes.specs.Table.{end_in}
 use Rattle.nodes.specs.Order.{TreeNode, is_move, is_wait, moves_among, waits_among}
 use Rattle.nodes.specs.Sheets.{HoldsSheet, SomeSheet}
 use Rattle.nodes.proofs.Order.{waits_length, moves_of_waits_lem, waits_of_waits_lem}
-use Rattle.nodes.proofs.Sheets.{sheet_end}
-use Rattle.fair.specs.Faults.{not_free, first_free, at_moves, at_waits, line_of, NodeAt, SomeTreeNode, LeastAt, FaultFound}
+use Rattle.nodes.proofs.Table.{node_end}
+use Rattle.nodes.proofs.Sheets.{sheet_stands, sheet_end}
+use Rattle.fair.specs.Faults.{not_free, first_free, at_moves, at_waits, line_of, NodeAt, SomeTreeNode, FaultAt, FaultFound, bare}
 use Rattle.fair.specs.Twice.{twice_by}
 use Rattle.fair.specs.declared.Fault as answered
-use Rattle.fair.specs.declared.Fault.TheVariants.{At, Nothing}
+use Rattle.std.specs.Prelude as code
+use Rattle.std.specs.Option.{MatchOption}
+use Rattle.fair.proofs.FirstTold.{FirstTold}
 use Rattle.fair.proofs.WhichKind.{none_smallest}
-use Rattle.fair.proofs.Laid.{Laid, laid_node, tree_of, sheet_laid}
+use Rattle.fair.proofs.Laid.{Laid, laid_end, laid_node, tree_of, sheet_laid}
 
 -- the fault of a node, by its smallest faulty cell; and of a wait that has a branch twice
 abbrev pub least_fault : (faulty : TreeNode → ℕ → Bool) → Board → TreeNode → Option Fault
@@ -90,56 +93,33 @@ unfolding first_twice
 tree_twice s = tree_waits (twice_fault s.board) twice_at (λ w. refl) (λ m. refl) s
 
 -- a smallest cell is at most the board's last one
-smallest_low : (b : Board) (set : ℕ → Bool) → Fits b → smallest b set ≢ 0 → smallest b set ≤ 361
+pub smallest_low : (b : Board) (set : ℕ → Bool) → Fits b → smallest b set ≤ 361
 unfolding is_cell cells
-smallest_low b set f z =
-    let i = (smallest_held b set z).0 in
+smallest_low b set f =
+    ⊎_elim (λ z. omega arith)
+    (λ p.
+    let i = (smallest_held b set (λ z. omega arith)).0 in
     let most : b.columns * b.rows ≤ 19 * 19 = mul-le-mul {n₂ = 19} {m₂ = 19} f.few_columns f.few_rows in
-    omega (arith, leb→le (smallest b set) (b.columns * b.rows) (snd (leb 1 (smallest b set)) (leb (smallest b set) (b.columns * b.rows)) i))
+    omega (arith, leb→le (smallest b set) (b.columns * b.rows) (snd (leb 1 (smallest b set)) (leb (smallest b set) (b.columns * b.rows)) i)))
+    (eq-zero-or-pos (smallest b set))
 
--- a node's smallest faulty cell is none, or it is its fault
-module _ (faulty : TreeNode → ℕ → Bool) {b : Board} {t : List ℕ} {i : ℕ} {c : ℕ} (e : LeastAt faulty b t i c) where
-  pub least_none : c ≡ 0 → (n : TreeNode) → NodeAt b t i n → least_fault faulty b n ≡ none
-  unfolding fault_at
-  least_none z n a = rw (sym (e n a) ∙ z)
-
-  pub least_some : c ≢ 0 → (n : TreeNode) → NodeAt b t i n → least_fault faulty b n ≡ some (record { line = line_of n; cell = c })
-  least_some z n a = ap (fault_at (line_of n)) (sym (e n a)) ∙ go c z
-    where
-      go : (k : ℕ) → k ≢ 0 → fault_at (line_of n) k ≡ some (record { line = line_of n; cell = k })
-      go zero y = absurd (y refl)
-      go (suc k) y = unfold fault_at in refl
-
-  -- it is at most the board's last one
-  pub least_low : SomeTreeNode b t i → Fits b → c ≢ 0 → c ≤ 361
-  least_low n f z =
-      let same = e n.node n.at in
-      omega (arith, same, smallest_low b (faulty n.node) f (λ q. z (same ∙ q)))
-
--- a node is no wait that has a branch twice, or it is one
-module _ {b : Board} {t : List ℕ} {i : ℕ} {r : Bool} (e : (n : TreeNode) → NodeAt b t i n → r ≡ twice_by n) where
-  pub twice_gone : r ≡ false → (n : TreeNode) → NodeAt b t i n → twice_fault b n ≡ none
-  unfolding twice_at
-  twice_gone z (is_move m) a = refl
-  twice_gone z (is_wait w) a = rw (sym (e (is_wait w) a) ∙ z)
-
-  pub twice_there : r ≡ true → (n : TreeNode) → NodeAt b t i n → twice_fault b n ≡ some (record { line = line_of n; cell = 0 })
-  unfolding twice_at
-  twice_there z (is_move m) a = absurd (true≢false (sym z ∙ e (is_move m) a))
-  twice_there z (is_wait w) a = rw (sym (e (is_wait w) a) ∙ z)
+-- the node at i has this fault
+record Has (at : Board → TreeNode → Option Fault) (b : Board) (i : ℕ) (n : TreeNode) (f : answered.Fault) : Type 0 where
+  here : f.node ≡ i
+  fault_is : at b n ≡ some (record { line = line_of n; cell = f.cell })
 
 -- of a held sheet, the nodes from i on are left, and its first fault is theirs
-pub record Left (first : Sheet → Option Fault) (at : Board → TreeNode → Option Fault) (b : Board) (t : List ℕ) (i end : ℕ) (s : Sheet) : Type 0 where
-  pub rest : List TreeNode
-  pub laid : Laid b t s.root.line i rest
-  pub to_end : i + length rest ≡ end
-  pub same : first s ≡ first_some (at b) rest
+record Left (first : Sheet → Option Fault) (at : Board → TreeNode → Option Fault) (b : Board) (t : List ℕ) (i end : ℕ) (s : Sheet) : Type 0 where
+  rest : List TreeNode
+  laid : Laid b t s.root.line i rest
+  to_end : i + length rest ≡ end
+  same : first s ≡ first_some (at b) rest
 
--- the loop's invariant: so it is of whatever sheet is held
-abbrev pub Searching : (Sheet → Option Fault) → (Board → TreeNode → Option Fault) → Board → List ℕ → (i end : ℕ) → Type 0
+-- so it is of whatever sheet is held
+abbrev Searching : (Sheet → Option Fault) → (Board → TreeNode → Option Fault) → Board → List ℕ → (i end : ℕ) → Type 0
 Searching first at b t i end = (s : Sheet) → HoldsSheet t b s → Left first at b t i end s
 
-pub search_starts : (first : Sheet → Option Fault) (at : Board → TreeNode → Option Fault) (b : Board) (t : List ℕ) (end : ℕ) → end ≡ end_in t 0
+search_starts : (first : Sheet → Option Fault) (at : Board → TreeNode → Option Fault) (b : Board) (t : List ℕ) (end : ℕ) → end ≡ end_in t 0
     → ((s : Sheet) → first s ≡ first_some (at s.board) (tree_of s)) → Searching first at b t 0 end
 search_starts first at b t end e tree s h =
     record {
@@ -168,13 +148,8 @@ next_node {first} {at} {b} {t} {i} {end} {s} p l = go l.rest l.laid l.to_end l.s
     go (n ∷ ns) (laid_node a k o) e q = record { node = n; stands = a; line_is = k; others = ns; laid = o; to_end = omega arith; same = q }
 
 module _ {first : Sheet → Option Fault} {at : Board → TreeNode → Option Fault} {b : Board} {t : List ℕ} {i end : ℕ} (w : Searching first at b t i end) where
-  pub search_node : i < end → SomeSheet t b → SomeTreeNode b t i
-  search_node p s =
-      let n = next_node p (w s.sheet s.held) in
-      record { node = n.node; at = n.stands }
-
   -- it is not faulty
-  pub search_again : i < end → ((n : TreeNode) → NodeAt b t i n → at b n ≡ none) → Searching first at b t (i + 1) end
+  search_again : i < end → ((n : TreeNode) → NodeAt b t i n → at b n ≡ none) → Searching first at b t (i + 1) end
   search_again p gone s h =
       let n = next_node p (w s h) in
       record {
@@ -185,21 +160,23 @@ module _ {first : Sheet → Option Fault} {at : Board → TreeNode → Option Fa
       }
 
   -- it is the first that is
-  pub search_found : i < end → (c : ℕ) → ((n : TreeNode) → NodeAt b t i n → at b n ≡ some (record { line = line_of n; cell = c }))
-      → (s : Sheet) → HoldsSheet t b s → i < most_nodes → FaultFound s (first s) (At i c)
-  search_found p c there s h low =
+  search_found : i < end → (f : answered.Fault) → ((n : TreeNode) → NodeAt b t i n → Has at b i n f)
+      → (s : Sheet) → HoldsSheet t b s → i < most_nodes → FaultFound s (first s) (code.Some f)
+  search_found p f there s h low =
       let n = next_node p (w s h) in
+      let has = there n.node n.stands in
+      let line : line_of n.node ≡ f.node + s.root.line = omega (arith, n.line_is, has.here) in
       record {
         seen =
             sym
             (n.same
-            ∙ ap (λ (o : Option Fault). or_else o (first_some (at b) n.others)) (there n.node n.stands)
-            ∙ ap (λ (l : ℕ). some (record { line = l; cell = c })) n.line_is);
-        low = low;
+            ∙ ap (λ (o : Option Fault). or_else o (first_some (at b) n.others)) has.fault_is
+            ∙ ap (λ (l : ℕ). some (record { line = l; cell = f.cell })) line);
+        low = omega (arith, low, has.here);
       }
 
   -- none is
-  pub search_ends : end ≤ i → (s : Sheet) → HoldsSheet t b s → FaultFound s (first s) Nothing
+  search_ends : end ≤ i → (s : Sheet) → HoldsSheet t b s → FaultFound s (first s) code.None
   search_ends p s h =
       let l = w s h in
       record { seen = sym (l.same ∙ go l.rest l.to_end); low = tt }
@@ -208,8 +185,94 @@ module _ {first : Sheet → Option Fault} {at : Board → TreeNode → Option Fa
       go [] e = unfold first_some in refl
       go (n ∷ ns) e = absurd (omega arith)
 
+-- a node of a held sheet
+pub sheet_node : {b : Board} {t : List ℕ} {i : ℕ} → SomeSheet t b → i < end_in t 0 → SomeTreeNode b t i
+sheet_node {b} {t} {i} s p = go (sheet_laid s.sheet s.held) (omega (arith, p, sheet_end s.held, waits_length s.sheet.root.waits)) (omega arith)
+  where
+    go : {k : ℕ} {ns : List TreeNode} → Laid b t s.sheet.root.line k ns → i < k + length ns → k ≤ i → SomeTreeNode b t i
+    go laid_end p q = absurd (omega arith)
+    go {k} (laid_node {n = n} a l o) p q =
+        ⊎_elim
+        (λ e.
+        let here : i ≡ k = omega arith in
+        record { node = n; at = subst⁻¹ (λ (j : ℕ). NodeAt b t j n) here a })
+        (λ z. go o (omega arith) (omega arith))
+        (eq-zero-or-pos (i - k))
+
+-- what is told first of the nodes is the first fault of a held sheet, where of each is told what fault it has
+module _ (first : Sheet → Option Fault) (at : Board → TreeNode → Option Fault) {b : Board} {t : List ℕ} {end : ℕ} (told : ℕ → code.Option answered.Fault → Type 0)
+    (tree : (s : Sheet) → first s ≡ first_some (at s.board) (tree_of s))
+    (gone : (i : ℕ) → told i code.None → (n : TreeNode) → NodeAt b t i n → at b n ≡ none)
+    (there : (i : ℕ) (f : answered.Fault) → told i (code.Some f) → (n : TreeNode) → NodeAt b t i n → Has at b i n f)
+    (e : end ≡ end_in t 0) where
+  none_told : (i : ℕ) → i ≤ end → ((j : ℕ) → j < i → told j code.None) → Searching first at b t i end
+  none_told zero p f = search_starts first at b t end e tree
+  none_told (suc i) p f =
+      let next : suc i ≡ i + 1 = omega arith in
+      subst⁻¹ (λ (k : ℕ). Searching first at b t k end) next
+      (search_again (none_told i (omega arith) (λ j q. f j (omega arith))) (omega arith) (gone i (f i (omega arith))))
+
+  search_tells : (r : code.Option answered.Fault) → FirstTold told end r → (s : Sheet) → HoldsSheet t b s → FaultFound s (first s) r
+  search_tells code.None f s h = search_ends (none_told end (omega arith) f) (omega arith) s h
+  search_tells (code.Some f) q s h =
+      search_found (none_told q.0 (omega (arith, q.1)) q.3) q.1 f (there q.0 f q.2) s h (omega (arith, q.1, e, sheet_end h, node_end (sheet_stands h), h.long))
+
+-- by the smallest faulty cells
+some_cell : (line c : ℕ) → c ≢ 0 → fault_at line c ≡ some (record { line = line; cell = c })
+unfolding fault_at
+some_cell line zero z = absurd (z refl)
+some_cell line (suc c) z = refl
+
+pub least_first : {first : Sheet → Option Fault} (faulty : TreeNode → ℕ → Bool) {b : Board} {t : List ℕ} {end : ℕ}
+    → ((s : Sheet) → first s ≡ first_some (least_fault faulty s.board) (tree_of s)) → end ≡ end_in t 0
+    → {r : code.Option answered.Fault} → FirstTold (FaultAt faulty b t) end r → (s : Sheet) → HoldsSheet t b s → FaultFound s (first s) r
+unfolding fault_at
+least_first {first} faulty {b} {t} tree e = search_tells first (least_fault faulty) (FaultAt faulty b t) tree gone there e _
+  where
+    gone : (i : ℕ) → FaultAt faulty b t i code.None → (n : TreeNode) → NodeAt b t i n → least_fault faulty b n ≡ none
+    gone i e n a = rw (e n a)
+
+    there : (i : ℕ) (f : answered.Fault) → FaultAt faulty b t i (code.Some f) → (n : TreeNode) → NodeAt b t i n → Has (least_fault faulty) b i n f
+    there i f e n a =
+        let is = e n a in
+        record { here = is.0; fault_is = ap (fault_at (line_of n)) (sym is.1) ∙ some_cell (line_of n) f.cell (λ q. is.2 (sym is.1 ∙ q)) }
+
+-- by the waits that have a branch twice
+abbrev pub TwiceAt : Board → List ℕ → ℕ → Bool → Type 0
+TwiceAt b t i r = (n : TreeNode) → NodeAt b t i n → r ≡ twice_by n
+
+abbrev BareAt : Board → List ℕ → ℕ → code.Option answered.Fault → Type 0
+BareAt b t i (code.Some f) = (f.node ≡ i) × (f.cell ≡ 0) × TwiceAt b t i true
+BareAt b t i code.None = TwiceAt b t i false
+
+twice_gone : (b : Board) (n : TreeNode) → false ≡ twice_by n → twice_fault b n ≡ none
+unfolding twice_at
+twice_gone b (is_move m) z = refl
+twice_gone b (is_wait w) z = rw (sym z)
+
+twice_there : (b : Board) (n : TreeNode) → true ≡ twice_by n → twice_fault b n ≡ some (record { line = line_of n; cell = 0 })
+unfolding twice_at
+twice_there b (is_move m) z = absurd (true≢false z)
+twice_there b (is_wait w) z = rw (sym z)
+
+pub twice_first : {b : Board} {t : List ℕ} {end : ℕ} → end ≡ end_in t 0 → (r : code.Option ℕ)
+    → MatchOption r ((k : ℕ) → 0 ≤ k → k < end → TwiceAt b t k false) (λ i. (0 ≤ i) × (i < end) × TwiceAt b t i true × ((k : ℕ) → 0 ≤ k → k < i → TwiceAt b t k false))
+    → (s : Sheet) → HoldsSheet t b s → FaultFound s (first_twice s) (bare r)
+twice_first {b} {t} {end} e = by_answer
+  where
+    tells : (r : code.Option answered.Fault) → FirstTold (BareAt b t) end r → (s : Sheet) → HoldsSheet t b s → FaultFound s (first_twice s) r
+    tells =
+        search_tells first_twice twice_fault (BareAt b t) tree_twice (λ i z n a. twice_gone b n (z n a))
+        (λ i f z n a. record { here = z.0; fault_is = twice_there b n (z.2 n a) ∙ ap (λ (c : ℕ). some (record { line = line_of n; cell = c })) (sym z.1) }) e
+
+    by_answer : (r : code.Option ℕ)
+        → MatchOption r ((k : ℕ) → 0 ≤ k → k < end → TwiceAt b t k false) (λ i. (0 ≤ i) × (i < end) × TwiceAt b t i true × ((k : ℕ) → 0 ≤ k → k < i → TwiceAt b t k false))
+        → (s : Sheet) → HoldsSheet t b s → FaultFound s (first_twice s) (bare r)
+    by_answer code.None h = tells code.None (λ k q. h k (omega arith) q)
+    by_answer (code.Some i) h = tells (code.Some (record { node = i; cell = 0 })) (i, h.1, (refl, refl, h.2), λ k q. h.3 k (omega arith) q)
+
 -- the stones are those of the sheet
-pub set_up_found : {s : Sheet} {r : answered.Fault} (stones : ℕ → Bool) → ((x : ℕ) → stones x ≡ among (set_up_cells s.set_up) x)
+pub set_up_found : {s : Sheet} {r : code.Option answered.Fault} (stones : ℕ → Bool) → ((x : ℕ) → stones x ≡ among (set_up_cells s.set_up) x)
     → FaultFound s (first_free stones s) r → FaultFound s (first_on_set_up s) r
 unfolding first_on_set_up on_set_up
 set_up_found {s} {r} stones e f =

@@ -1,5 +1,5 @@
 -- Which kind of node stands at a node number: the first node is a move, and any other that has a cell.
-use mathlib.Core.Path.{◌≡◌, refl, sym, subst, ◌∙◌}
+use mathlib.Core.Path.{◌≡◌, refl, sym, subst, subst⁻¹, ◌∙◌}
 use mathlib.Core.Logic.{◌≢◌, ⊎_elim}
 use mathlib.Core.Bool.{Bool, true, false, ◌&&◌, ◌||◌, true≢false, false≢true}
 use Prim.Native.Nat.{ℕ, ◌+◌, ◌*◌, ◌<◌, ◌≤◌}
@@ -23,7 +23,9 @@ use Rattle.nodes.specs.Nodes.{a_wait, a_move, nodes_of_waits, nodes_of_moves, ma
 use Rattle.nodes.specs.Table.{cell_in, under_in, RowOn, WeighedOn, At, SomeNode, is_move_at}
 use Rattle.nodes.specs.Order.{TreeNode, is_move, is_wait}
 use Rattle.nodes.proofs.Table.{at_map, on_row}
-use Rattle.fair.specs.Faults.{not_free, at_moves, at_waits, MoveAt, WaitAt, NodeAt, move_at, wait_at, SomeTreeNode, FoundAtMove, LeastAt}
+use Rattle.fair.specs.Faults.{not_free, at_moves, at_waits, MoveAt, WaitAt, NodeAt, move_at, wait_at, SomeTreeNode, FoundAtMove, IsFault, FaultAt}
+use Rattle.fair.specs.declared.Fault as answered
+use Rattle.std.specs.Prelude as code
 use Rattle.fair.specs.Twice.{ForkAt, SomeFork, twice_by}
 
 -- what a set holds is a cell
@@ -79,44 +81,45 @@ module _ {b : Board} {t : List ℕ} {i : ℕ} where
       go (wait_at a p g) = a.here.weight.row.room
 
   -- by what is asked of moves alone, or of waits alone: the smallest cell found where such a node stands, and none where none does
-  pub least_move : (rows : List ℕ) (cell : ℕ) → cell ≡ smallest b (held b rows) → (faulty : Move → ℕ → Bool) → is_move_at t i ≡ true → FoundAtMove faulty b t i rows → LeastAt (at_moves faulty) b t i cell
-  least_move rows cell e faulty k f =
-      of_move k (λ n. cell ≡ smallest b (at_moves faulty n)) (λ m a. e ∙ smallest_same b (held b rows) (faulty m) (λ x c. f m a x (cell_range b x c).0))
+  pub least_move : (rows : List ℕ) (cell : ℕ) → cell ≡ smallest b (held b rows) → (faulty : Move → ℕ → Bool) → is_move_at t i ≡ true → FoundAtMove faulty b t i rows
+      → (r : code.Option answered.Fault) → IsFault i cell r → FaultAt (at_moves faulty) b t i r
+  least_move rows cell e faulty k f r is =
+      of_move k (λ n. IsFault i (smallest b (at_moves faulty n)) r)
+      (λ m a. subst (λ (c : ℕ). IsFault i c r) (e ∙ smallest_same b (held b rows) (faulty m) (λ x c. f m a x (cell_range b x c).0)) is)
 
-  pub none_wait : (faulty : Move → ℕ → Bool) → is_move_at t i ≡ false → LeastAt (at_moves faulty) b t i 0
-  none_wait faulty k = of_wait k (λ n. 0 ≡ smallest b (at_moves faulty n)) (λ w a g. sym (none_smallest b))
+  pub none_wait : (faulty : Move → ℕ → Bool) → is_move_at t i ≡ false → FaultAt (at_moves faulty) b t i code.None
+  none_wait faulty k = of_wait k (λ n. smallest b (at_moves faulty n) ≡ 0) (λ w a g. none_smallest b)
 
-  pub none_move : (faulty : Wait → ℕ → Bool) → is_move_at t i ≡ true → LeastAt (at_waits faulty) b t i 0
-  none_move faulty k = of_move k (λ n. 0 ≡ smallest b (at_waits faulty n)) (λ m a. sym (none_smallest b))
+  pub none_move : (faulty : Wait → ℕ → Bool) → is_move_at t i ≡ true → FaultAt (at_waits faulty) b t i code.None
+  none_move faulty k = of_move k (λ n. smallest b (at_waits faulty n) ≡ 0) (λ m a. none_smallest b)
 
   -- a move with nothing under it is apart
-  pub leaf_apart : under_in t i ≡ 0 → is_move_at t i ≡ true → LeastAt (at_moves not_apart) b t i 0
+  pub leaf_apart : under_in t i ≡ 0 → is_move_at t i ≡ true → FaultAt (at_moves not_apart) b t i code.None
   leaf_apart z k =
-      of_move k (λ n. 0 ≡ smallest b (at_moves not_apart n))
-      (λ m a. sym (smallest_zero b (not_apart m) (λ x c h. none_under m.waits (sym a.here.row.under ∙ z) m refl x h)))
+      of_move k (λ n. smallest b (at_moves not_apart n) ≡ 0)
+      (λ m a. smallest_zero b (not_apart m) (λ x c h. none_under m.waits (sym a.here.row.under ∙ z) m refl x h))
 
   -- a move's own cell with a stone on it, and one without; a wait has no cell
   module _ (rows : List ℕ) (cell : ℕ) (is : cell ≡ cell_in t i) where
-    pub stone_there : held b rows cell ≡ true → LeastAt (at_moves (not_free (held b rows))) b t i cell
-    stone_there e _ (move_at {m} a g) =
+    pub stone_there : held b rows cell ≡ true → (r : code.Option answered.Fault) → IsFault i cell r → FaultAt (at_moves (not_free (held b rows))) b t i r
+    stone_there e r f _ (move_at {m} a g) =
         let own : cell ≡ m.cell = is ∙ a.here.weight.row.cell in
-        sym
+        subst⁻¹ (λ (c : ℕ). IsFault i c r)
         (smallest_is b (not_free (held b rows) m) cell
         (record {
           is_cell_lem = held_cell b rows cell e;
           in_set = both (eqb cell m.cell) (held b rows cell) (holds_of (eq-eqb cell m.cell own)) (holds_of e);
           least = λ x k h. omega (arith, own, eqb→eq x m.cell (fst (eqb x m.cell) (held b rows x) h));
-        }))
-    stone_there e _ (wait_at {w} a p g) = absurd (omega (arith, is, a.here.weight.row.cell, (cell_range b cell (held_cell b rows cell e)).0))
+        })) f
+    stone_there e r f _ (wait_at {w} a p g) = absurd (omega (arith, is, a.here.weight.row.cell, (cell_range b cell (held_cell b rows cell e)).0))
 
-    pub stone_gone : held b rows cell ≡ false → LeastAt (at_moves (not_free (held b rows))) b t i 0
+    pub stone_gone : held b rows cell ≡ false → FaultAt (at_moves (not_free (held b rows))) b t i code.None
     stone_gone e _ (move_at {m} a g) =
-        sym
-        (smallest_zero b (not_free (held b rows) m)
+        smallest_zero b (not_free (held b rows) m)
         (λ x k h.
         let same : x ≡ cell = eqb→eq x m.cell (fst (eqb x m.cell) (held b rows x) h) ∙ sym (is ∙ a.here.weight.row.cell) in
-        subst T e (subst (λ (y : ℕ). T (held b rows y)) same (snd (eqb x m.cell) (held b rows x) h))))
-    stone_gone e _ (wait_at {w} a p g) = sym (none_smallest b)
+        subst T e (subst (λ (y : ℕ). T (held b rows y)) same (snd (eqb x m.cell) (held b rows x) h)))
+    stone_gone e _ (wait_at {w} a p g) = none_smallest b
 
   -- a move has no branch twice; a wait is looked through
   pub some_fork : is_move_at t i ≡ false → SomeTreeNode b t i → SomeFork t i

@@ -1,5 +1,6 @@
 -- What the tests of fair sheets answer: the faulty cells of a node of the table, and the first fault of a sheet.
 use Rattle.std.specs.Prelude.{◌≡◌, ◌≢◌, Bool, false, ◌&&◌, ◌||◌, List, ℕ, ◌+◌, ◌<◌, ◌≤◌, eqb}
+use Rattle.std.specs.Prelude as code
 use Rattle.std.proofs.Math.Option.{Option, none, some}
 use Rattle.rules.specs.Sizes.{most_nodes}
 use Rattle.rules.specs.declared.Board.{Board}
@@ -13,17 +14,22 @@ use Rattle.nodes.specs.Order.{TreeNode, is_move, is_wait}
 use Rattle.fair.specs.declared.Fault as answered
 
 -- the fault that an answer tells, where the first node's line is `first`
-abbrev pub fault_seen : (first : ℕ) → answered.Fault → Option Fault
-fault_seen first (answered.TheVariants.At i c) = some (record { line = i + first; cell = c })
-fault_seen first answered.TheVariants.Nothing = none
+abbrev pub fault_seen : (first : ℕ) → code.Option answered.Fault → Option Fault
+fault_seen first (code.Some f) = some (record { line = f.node + first; cell = f.cell })
+fault_seen first code.None = none
 
 -- a node's number is below the most nodes
-abbrev pub FaultLow : answered.Fault → Type 0
-FaultLow (answered.TheVariants.At i c) = i < most_nodes
-FaultLow answered.TheVariants.Nothing = Unit {0}
+abbrev pub FaultLow : code.Option answered.Fault → Type 0
+FaultLow (code.Some f) = f.node < most_nodes
+FaultLow code.None = Unit {0}
+
+-- a faulty node whose fault is not a cell's: its cell is 0
+abbrev pub bare : code.Option ℕ → code.Option answered.Fault
+bare (code.Some i) = code.Some (record { node = i; cell = 0 })
+bare code.None = code.None
 
 -- the answer tells this fault of the sheet
-pub record FaultFound (s : Sheet) (fault : Option Fault) (r : answered.Fault) : Type 0 where
+pub record FaultFound (s : Sheet) (fault : Option Fault) (r : code.Option answered.Fault) : Type 0 where
   pub seen : fault_seen s.root.line r ≡ fault
   pub low : FaultLow r
 
@@ -70,9 +76,14 @@ pub record SomeTreeNode (b : Board) (t : List ℕ) (i : ℕ) : Type 0 where
 abbrev pub FoundAtMove : (faulty : Move → ℕ → Bool) → Board → List ℕ → ℕ → List ℕ → Type 0
 FoundAtMove faulty b t i rows = (m : Move) → MoveAt b t i m → (x : ℕ) → 1 ≤ x → held b rows x ≡ faulty m x
 
--- the smallest faulty cell of the node that stands at node i, whatever it is
-abbrev pub LeastAt : (faulty : TreeNode → ℕ → Bool) → Board → List ℕ → (i cell : ℕ) → Type 0
-LeastAt faulty b t i cell = (n : TreeNode) → NodeAt b t i n → cell ≡ smallest b (faulty n)
+-- an answer is the fault of a node by its smallest faulty cell, and none where that is 0
+abbrev pub IsFault : (node cell : ℕ) → code.Option answered.Fault → Type 0
+IsFault i c (code.Some f) = (f.node ≡ i) × (f.cell ≡ c) × (c ≢ 0)
+IsFault i c code.None = c ≡ 0
+
+-- an answer is the fault of the node that stands at node i, whatever it is
+abbrev pub FaultAt : (faulty : TreeNode → ℕ → Bool) → Board → List ℕ → ℕ → code.Option answered.Fault → Type 0
+FaultAt faulty b t i r = (n : TreeNode) → NodeAt b t i n → IsFault i (smallest b (faulty n)) r
 
 -- one more set in a tally of the cells found once or more, and twice or more
 pub record OneMoreSet (once twice more once' twice' : List ℕ) : Type 0 where

@@ -1,30 +1,43 @@
 // fair: free, apart and no branch twice, decided over the node table. It holds the three searches for the first faulty node, each
 // with that node's smallest faulty cell where the fault is a cell's. (Elusive is in live.) It sees rules, cells and nodes.
+// A walk over the moves of a wait goes on by a number of the table: a `while`.
 
 #![tactic(auto)]
 
-ghost use Rattle.std.specs.Prelude.{◌≡◌, ◌+◌, ◌*◌, ◌<◌, ◌≤◌, length};
+ghost use Rattle.std.specs.Prelude.{◌≡◌, ◌+◌, ◌*◌, ◌^◌, ◌<◌, ◌≤◌, length};
 ghost use Rattle.rules.specs.Words.{any, same, twice};
 ghost use Rattle.rules.specs.Fair.{not_apart, branches, first_on_set_up, first_not_apart, first_twice};
 ghost use Rattle.rules.specs.Tree.{Wait, Sheet, set_up_cells};
 ghost use Rattle.rules.specs.declared.Board as declared;
-ghost use Rattle.cells.specs.Cells.{Holds, Fits};
+ghost use Rattle.cells.specs.Cells.{held, Holds};
 ghost use Rattle.nodes.specs.Nodes.{a_move};
 ghost use Rattle.nodes.specs.Table.{RowOn, SomeNode};
 ghost use Rattle.nodes.specs.Order.{TreeNode};
 ghost use Rattle.nodes.specs.Sheets.{HoldsSheet, SomeSheet};
-ghost use Rattle.fair.specs.Faults.{FaultFound, at_moves, NodeAt, SomeTreeNode, FoundAtMove, LeastAt, OneMoreSet};
+ghost use Rattle.fair.specs.Faults.{FaultFound, bare, IsFault, FaultAt, not_free, at_moves, NodeAt, SomeTreeNode, FoundAtMove, OneMoreSet};
 ghost use Rattle.fair.specs.Twice.{same_row, rows_in, branch_in, Spans, ForkAt, SomeFork, MovesFrom, twice_by};
 
-use cells::Cells;
+use cells::{Cells, Grid};
 use nodes::{cell_at, collect_wait, end_at, is_move, under_at, with_stone};
-use rules::Board;
 
-// The first faulty node, and its smallest faulty cell; 0 where the fault is not a cell's.
+// A faulty node, and its smallest faulty cell.
 #[derive(Clone, Copy)]
-pub enum Fault {
-    At { node: usize, cell: u32 },
-    Nothing,
+pub struct Fault {
+    pub node: usize,
+    pub cell: u32,
+}
+
+impl Fault {
+    // The fault of a node, by its smallest faulty cell; none where that is 0, as `smallest` says.
+    pub fn of(node: usize, cell: usize) -> Option<Fault>
+        requires { cell < 2 ^ 32 }
+        ensures { IsFault node cell result }
+    {
+        (cell != 0).then_some(Fault {
+            node,
+            cell: cell as u32,
+        })
+    }
 }
 
 // The cells found once or more, and those found twice or more.
@@ -50,82 +63,67 @@ impl Seen {
 }
 
 // The faulty cells of the move at node i: its own where it is found under it, and those found in two or more of its waits.
-fn not_apart_at(table: &[u32], board: Board, i: usize) -> Cells
-    requires fits { Fits board }
-    requires stands { SomeNode (RowOn board table.now) a_move i }
-    ensures { FoundAtMove not_apart board table.now i result.rows }
+fn not_apart_at(table: &[u32], grid: Grid, i: usize) -> Cells
+    requires stands { SomeNode (RowOn grid.board table.now) a_move i }
+    ensures { FoundAtMove not_apart grid.board table.now i result.rows }
 {
     let under = under_at(table, i);
     let cell = cell_at(table, i);
-    let own = with_stone(Cells::empty(), board, cell);
+    let own = with_stone(Cells::empty(), grid, cell);
     let mut seen = Seen {
         once: own,
         twice: Cells::empty(),
     };
     let mut next = i + 1;
-    let mut j = 0;
-    while j < under {
-        let w = collect_wait(table, board, next, Cells::empty());
+    for _ in 0..under {
+        let w = collect_wait(table, grid, next, Cells::empty());
         seen = seen.add(w.cells);
         next = w.next;
-        j += 1;
     }
     seen.twice
 }
 
-// The smallest faulty cell of node i by 10; 0 where it has none. (A wait has none, nor has a move with nothing under it.)
-fn fault_at(table: &[u32], board: Board, i: usize) -> usize
-    requires fits { Fits board }
-    requires stands { SomeTreeNode board table.now i }
-    ensures { LeastAt (at_moves not_apart) board table.now i result }
+// The fault of node i by 10. (A wait has none, nor has a move with nothing under it.)
+fn fault_at(table: &[u32], grid: Grid, i: usize) -> Option<Fault>
+    requires stands { SomeTreeNode grid.board table.now i }
+    ensures { FaultAt (at_moves not_apart) grid.board table.now i result }
 {
-    if !is_move(table, i) {
-        return 0;
+    if !is_move(table, i) || under_at(table, i) == 0 {
+        return None;
     }
-    if under_at(table, i) == 0 {
-        return 0;
-    }
-    let found = not_apart_at(table, board, i);
-    found.least(board)
+    let found = not_apart_at(table, grid, i);
+    Fault::of(i, found.least(grid))
 }
 
-// 20: the first move on a set-up stone, given the cells of the stones. (A wait has no cell.)
-pub fn on_set_up(table: &[u32], board: Board, stones: Cells) -> Fault
-    requires { SomeSheet table.now board }
-    ensures { (s : Sheet) → HoldsSheet table.now board s → Holds board stones.rows (set_up_cells s.set_up) → FaultFound s (first_on_set_up s) result }
+// The fault of node i by 20, given the cells of the set-up stones. (A wait has no cell.)
+fn stone_at(table: &[u32], grid: Grid, stones: Cells, i: usize) -> Option<Fault>
+    requires stands { SomeTreeNode grid.board table.now i }
+    ensures { FaultAt (at_moves (not_free (held grid.board stones.rows))) grid.board table.now i result }
 {
-    let nodes = end_at(table, 0);
-    for i in 0..nodes {
-        let cell = cell_at(table, i);
-        if stones.has(board, cell) {
-            return Fault::At {
-                node: i,
-                cell: cell as u32,
-            };
-        }
+    let cell = cell_at(table, i);
+    if !stones.has(grid, cell) {
+        return None;
     }
-    Fault::Nothing
+    Fault::of(i, cell)
+}
+
+// 20: the first move on a set-up stone, given the cells of the stones.
+pub fn on_set_up(table: &[u32], grid: Grid, stones: Cells) -> Option<Fault>
+    requires { SomeSheet table.now grid.board }
+    ensures { (s : Sheet) → HoldsSheet table.now grid.board s → Holds grid.board stones.rows (set_up_cells s.set_up) → FaultFound s (first_on_set_up s) result }
+{
+    (0..end_at(table, 0)).find_map(|i| stone_at(table, grid, stones, i))
 }
 
 // 10: the first move that is not apart.
-pub fn not_apart(table: &[u32], board: Board) -> Fault
-    requires { SomeSheet table.now board }
-    ensures { (s : Sheet) → HoldsSheet table.now board s → FaultFound s (first_not_apart s) result }
+pub fn not_apart(table: &[u32], grid: Grid) -> Option<Fault>
+    requires { SomeSheet table.now grid.board }
+    ensures { (s : Sheet) → HoldsSheet table.now grid.board s → FaultFound s (first_not_apart s) result }
 {
-    let end = end_at(table, 0);
-    for i in 0..end {
-        let cell = fault_at(table, board, i);
-        if cell != 0 {
-            return Fault::At {
-                node: i,
-                cell: cell as u32,
-            };
-        }
-    }
-    Fault::Nothing
+    (0..end_at(table, 0)).find_map(|i| fault_at(table, grid, i))
 }
 
-// Whether nodes i and j have the same cell, and as many nodes right under them.
+// Whether nodes i and j have the same cell, and as many nodes right under them. (Their two other numbers, of what is under them, may differ.)
 fn same_row(table: &[u32], i: usize, j: usize) -> bool
     requires { (4 * i + 3 < length table.now) × (4 * j + 3 < length table.now) }
     ensures { result ≡ same_row table.now i j }
@@ -138,6 +136,7 @@ fn same_rows(table: &[u32], i: usize, j: usize, n: usize) -> bool
     requires { (4 * (i + n) ≤ length table.now) × (4 * (j + n) ≤ length table.now) }
     ensures { result ≡ same (rows_in table.now i n) (rows_in table.now j n) }
 {
+    // (A loop: `(0..n).all(..)` takes longer here, measured.)
     for k in 0..n {
         if !same_row(table, i + k, j + k) {
             return false;
@@ -152,10 +151,7 @@ fn same_branch(table: &[u32], i: usize, j: usize) -> bool
     ensures { result ≡ same (branch_in table.now i) (branch_in table.now j) }
 {
     let rows = end_at(table, i) - i;
-    if end_at(table, j) - j != rows {
-        return false;
-    }
-    same_rows(table, i, j, rows)
+    end_at(table, j) - j == rows && same_rows(table, i, j, rows)
 }
 
 // Whether one of the moves from node `from` up to node `end` has the branch of the move at node i.
@@ -195,22 +191,13 @@ fn has_twice(table: &[u32], i: usize) -> bool
     requires { (b : declared.Board) × SomeTreeNode b table.now i }
     ensures { (b : declared.Board) (n : TreeNode) → NodeAt b table.now i n → result ≡ twice_by n }
 {
-    if is_move(table, i) {
-        return false;
-    }
-    twice_at(table, i)
+    !is_move(table, i) && twice_at(table, i)
 }
 
-// 24: the first wait that has a branch twice. (It has no faulty cell: 0.)
-pub fn branch_twice(table: &[u32]) -> Fault
+// 24: the first wait that has a branch twice. (It has no faulty cell.)
+pub fn branch_twice(table: &[u32]) -> Option<usize>
     requires { (b : declared.Board) × SomeSheet table.now b }
-    ensures { (b : declared.Board) (s : Sheet) → HoldsSheet table.now b s → FaultFound s (first_twice s) result }
+    ensures { (b : declared.Board) (s : Sheet) → HoldsSheet table.now b s → FaultFound s (first_twice s) (bare result) }
 {
-    let end = end_at(table, 0);
-    for node in 0..end {
-        if has_twice(table, node) {
-            return Fault::At { node, cell: 0 };
-        }
-    }
-    Fault::Nothing
+    (0..end_at(table, 0)).find(|i| has_twice(table, *i))
 }

@@ -12,10 +12,14 @@ use report::report;
 use sheet::judge;
 use std::io::{self, Read};
 
+// The most bytes of the line: seven numbers of ten digits, each followed by a tab or the line feed.
+const MOST_LINE: usize = 77;
+// A sheet is judged with the least workspace.
+const WORKSPACE: usize = 8192;
+
 // Judges the sheet, writes the line that is printed of it into the first bytes of the room, and returns its length.
-fn write_judge(text: &[u8], workspace: &mut [u32], room: &mut [u8]) -> usize
-    requires { 77 ≤ length room.old }
-    ensures { Wrote (judge_line (length workspace.old) text.now) room.old 0 room.new result }
+fn write_judge(text: &[u8], workspace: &mut [u32; WORKSPACE], room: &mut [u8; MOST_LINE]) -> usize
+    ensures { Wrote (judge_line least_workspace text.now) room.old 0 room.new result }
 {
     let verdict = judge(text, workspace);
     report(room, 0, verdict)
@@ -32,17 +36,17 @@ fn print(out: &impl Print, text: &[u8], line: &[u8]) -> io::Result<()>
 fn print_judge(
     out: &impl Print,
     text: &[u8],
-    workspace: &mut [u32],
-    room: &mut [u8],
+    workspace: &mut [u32; WORKSPACE],
+    room: &mut [u8; MOST_LINE],
 ) -> io::Result<()>
-    requires { (length workspace.old ≡ least_workspace) × (77 ≤ length room.old) }
     ensures { (end : ℕ) × Wrote (judge_line least_workspace text.now) room.old 0 room.new end }
 {
     let end = write_judge(text, workspace, room);
     print(out, text, &room[..end])
 }
 
-// Reads until the room is full or the input ends, and returns how many bytes it put at the start.
+// Reads until the room is full or the input ends, and returns how many bytes it put at the start. (A loop over `read`, which counts the
+// bytes that came: std's `read_exact` refuses an input that ends before.)
 fn read_full(input: &mut impl Read, room: &mut [u8]) -> io::Result<usize>
     ensures ok { IfOk result (λ n. n ≤ length room.new) }
     ensures err { OnErr result (length room.new ≡ length room.old) }
@@ -62,7 +66,7 @@ fn main(rt: HostRuntime) -> io::Result<()> {
     // One byte more than a sheet may have, so that a longer text shows.
     let mut text = [0u8; 32769];
     let n = read_full(&mut rt.stdin(), &mut text)?;
-    let mut workspace = [0u32; 8192];
-    let mut room = [0u8; 77];
+    let mut workspace = [0; WORKSPACE];
+    let mut room = [0; MOST_LINE];
     print_judge(&rt, &text[..n], &mut workspace, &mut room)
 }

@@ -1,51 +1,52 @@
--- A loop over the nodes of a held sheet that counts its moves.
-use mathlib.Core.Path.{◌≡◌, refl, sym, ap, subst, ◌∙◌}
-use mathlib.Core.Bool.{true, false}
-use mathlib.Core.List.{List, [], ◌∷◌}
-use Prim.Native.Nat.{ℕ, suc, ◌+◌, ◌<◌}
-use native.Mathlib.Nat.{add-zero}
+-- The nodes of a held sheet counted, and its moves among them.
+use Rattle.std.specs.List.{filter, range_with_len}
+use mathlib.Core.Path.{◌≡◌, refl, ap, ◌∙◌}
+use mathlib.Core.Bool.{Bool, true, false}
+use mathlib.Core.List.{List}
+use Prim.Native.Nat.{ℕ, suc, ◌+◌, ◌*◌, ◌<◌}
 use native.Mathlib.Omega.{arith}
 use lib.ListN.{length}
 use Rattle.rules.specs.declared.Board.{Board}
-use Rattle.rules.specs.Words.{total}
-use Rattle.rules.specs.Tree.{Move, Sheet, every_move, move_count}
-use Rattle.nodes.specs.Table.{is_move_at}
+use Rattle.rules.specs.Tree.{Move, Sheet, every_move, move_count, every_wait, wait_count}
+use Rattle.rules.proofs.WellRead.{nodes_of_waits_lem}
+use Rattle.nodes.specs.Table.{end_in, is_move_at}
 use Rattle.nodes.specs.Order.{TreeNode, is_move, is_wait, moves_among}
-use Rattle.nodes.proofs.Order.{moves_of_waits_lem}
+use Rattle.nodes.specs.Sheets.{HoldsSheet}
+use Rattle.nodes.proofs.Order.{waits_length, moves_of_waits_lem}
+use Rattle.nodes.proofs.Sheets.{sheet_end}
+use Rattle.nodes.proofs.Trees.{waits_size}
 use Rattle.fair.specs.Faults.{NodeAt}
 use Rattle.fair.proofs.WhichKind.{of_move, of_wait}
-use Rattle.fair.proofs.Laid.{tree_of}
-use Rattle.fair.proofs.Adding.{Sum, Adding, adding_again}
+use Rattle.fair.proofs.Laid.{Laid, laid_end, laid_node, tree_of, sheet_laid}
 
--- a move gives one, a wait none
-abbrev pub one_move : TreeNode → ℕ
-one_move (is_move m) = 1
-one_move (is_wait w) = 0
+-- the test of a node tells its kind
+abbrev is_a_move : TreeNode → Bool
+is_a_move (is_move m) = true
+is_a_move (is_wait w) = false
 
-moves_total : (ns : List TreeNode) → length (moves_among ns) ≡ total one_move ns
-unfolding moves_among total
-moves_total [] = refl
-moves_total (is_move m ∷ ns) = omega (arith, moves_total ns)
-moves_total (is_wait w ∷ ns) = omega (arith, moves_total ns)
+kind_told : {b : Board} {t : List ℕ} {i : ℕ} (n : TreeNode) → NodeAt b t i n → (test : Bool) → is_move_at t i ≡ test → test ≡ is_a_move n
+kind_told n a true e = of_move e (λ k. true ≡ is_a_move k) (λ m at. refl) n a
+kind_told n a false e = of_wait e (λ k. false ≡ is_a_move k) (λ w at g. refl) n a
 
-pub tree_moves : (s : Sheet) → move_count s ≡ total one_move (tree_of s)
-unfolding move_count every_move moves_among
-tree_moves s = ap (λ (ms : List Move). suc (length ms)) (sym (moves_of_waits_lem s.root.waits)) ∙ moves_total (tree_of s)
+-- so it passes the moves among nodes that stand one after another
+moves_passed : {b : Board} {t : List ℕ} {first i : ℕ} {ns : List TreeNode} → Laid b t first i ns → length (filter (is_move_at t) (range_with_len i (length ns))) ≡ length (moves_among ns)
+unfolding moves_among
+moves_passed laid_end = refl
+moves_passed (laid_node {n = is_move m} a l o) = rw (kind_told _ a _ refl) (ap suc (moves_passed o))
+moves_passed (laid_node {n = is_wait w} a l o) = rw (kind_told _ a _ refl) (moves_passed o)
 
-abbrev pub moves_sum : Sum
-moves_sum = record { gives = one_move; all = move_count; is_all = tree_moves }
+module _ {t : List ℕ} {b : Board} {s : Sheet} (h : HoldsSheet t b s) where
+  -- nodes that are no moves are waits
+  pub sheet_waits : end_in t 0 ≡ move_count s + wait_count s
+  unfolding move_count wait_count every_move every_wait
+  sheet_waits = omega (arith, sheet_end h, waits_size s.root.waits, nodes_of_waits_lem s.root.waits)
 
--- what the node at i gives, by its kind
-module _ {b : Board} {t : List ℕ} {i : ℕ} where
-  pub one_here : is_move_at t i ≡ true → (n : TreeNode) → NodeAt b t i n → 1 ≡ one_move n
-  one_here e = of_move e (λ n. 1 ≡ one_move n) (λ m k. refl)
+  -- each has its row in the table
+  pub node_room : {i end : ℕ} → end ≡ end_in t 0 → i < end → 4 * i + 3 < length t
+  node_room e p = omega (arith, e, p, sheet_waits, h.well.few_nodes, h.long)
 
-  none_here : is_move_at t i ≡ false → (n : TreeNode) → NodeAt b t i n → 0 ≡ one_move n
-  none_here e = of_wait e (λ n. 0 ≡ one_move n) (λ w k g. refl)
-
-  module _ {end moves : ℕ} (c : Adding moves_sum b t i end moves) (h : i < end) where
-    pub counting_move : is_move_at t i ≡ true → Adding moves_sum b t (i + 1) end (moves + 1)
-    counting_move e = adding_again moves_sum c h (one_here e)
-
-    pub counting_wait : is_move_at t i ≡ false → Adding moves_sum b t (i + 1) end moves
-    counting_wait e = subst (Adding moves_sum b t (i + 1) end) (add-zero moves) (adding_again moves_sum c h (none_here e))
+  pub moves_counted : {end : ℕ} → end ≡ end_in t 0 → length (filter (is_move_at t) (range_with_len 0 end)) ≡ move_count s
+  unfolding move_count every_move moves_among
+  moves_counted {end} e =
+      let all : end ≡ length (tree_of s) = omega (arith, e, sheet_end h, waits_length s.root.waits) in
+      rw all (moves_passed (sheet_laid s h)) ∙ ap (λ (ms : List Move). suc (length ms)) (moves_of_waits_lem s.root.waits)

@@ -1,49 +1,43 @@
 // judging: the checks of a sheet that the table holds, one function a check, and the verdict with its counts. It sees rules, cells,
 // nodes, fair, live and outcomes.
+// The table is lent anew at each call, so it is handed on beside the head of its sheet. The checks are functions of one shape and not one
+// function: each is a definition's own, with its verdict, and a verdict handed in as a function would need more words in the contract than
+// it saves.
 
 #![tactic(auto)]
 
-ghost use Rattle.std.specs.Prelude.{◌≡◌, ◌+◌, ◌<◌, ◌≤◌};
+ghost use Rattle.std.specs.Prelude.{◌≡◌, ◌+◌, ◌<◌, ◌≤◌, IfOk};
 ghost use Rattle.rules.specs.Sizes.{most_nodes, most_bytes};
 ghost use Rattle.rules.specs.Tree.{Sheet, move_count};
-ghost use Rattle.rules.specs.Entries.{fair, judged};
+ghost use Rattle.rules.specs.Live.{idle_count};
+ghost use Rattle.rules.specs.Fair.{first_on_set_up, first_not_apart, first_twice, first_not_elusive};
+ghost use Rattle.rules.specs.Entries.{refuse_fault, fair, judged};
 ghost use Rattle.rules.specs.declared.Board as declared;
+ghost use Rattle.rules.specs.declared.Verdict.TheVariants.{OnSetUp, NotApart, NotElusive, SameBranch};
 ghost use Rattle.nodes.specs.Sheets.{HoldsSheet, SomeSheet, HoldsWhole, SomeWhole};
 ghost use Rattle.live.specs.Thinning.{KeepsLive};
-ghost use Rattle.judging.specs.Checked.{from_free, from_apart, from_twice, from_elusive, from_count, SomeLiving, Says, passing, Tells, TellsAll};
+ghost use Rattle.judging.specs.Checked.{checked, from_count, SomeLiving, passing, Tells, TellsAll};
 
-use fair::{Fault, branch_twice, not_apart, on_set_up};
-use live::{Elusive, keep_live, not_elusive};
-use nodes::{SetUp, count_at, end_at, is_move};
-use outcomes::{Unjoined, first_unjoined};
-use rules::{Board, Counts, Player, Verdict};
+use cells::Grid;
+use fair::{branch_twice, not_apart, on_set_up};
+use live::{keep_live, not_elusive};
+use nodes::{Head, SetUp, count_at, end_at, is_move};
+use outcomes::first_unjoined;
+use rules::{Counts, Verdict};
 
-// A sheet that is fair, its number of outcomes, and how many of its moves aren't live; or the refusal.
+// A sheet that is fair: its number of outcomes, and how many of its moves aren't live.
 #[derive(Clone, Copy)]
-pub enum FairRead {
-    Got { outcomes: u32, idle: u32 },
-    Refused { verdict: Verdict },
+pub struct Fair {
+    pub outcomes: u32,
+    pub idle: u32,
 }
 
-// A sheet that is accepted, its number of outcomes, how many of them were passed over, and how many of its moves aren't live; or the
-// refusal.
+// A sheet that is accepted: its number of outcomes, how many of them were passed over, and how many of its moves aren't live.
 #[derive(Clone, Copy)]
-pub enum AcceptedRead {
-    Got {
-        outcomes: u32,
-        passed: u32,
-        idle: u32,
-    },
-    Refused {
-        verdict: Verdict,
-    },
-}
-
-// What the checks over every line come to: how many moves aren't live, or the refusal.
-#[derive(Clone, Copy)]
-enum Checked {
-    Passed { idle: usize },
-    Refused { verdict: Verdict },
+pub struct Accepted {
+    pub outcomes: u32,
+    pub passed: u32,
+    pub idle: u32,
 }
 
 // The line of a node, by the line of the first one.
@@ -54,114 +48,90 @@ fn line_of(node: usize, first: u32) -> u32
     node as u32 + first
 }
 
+// 20: a move on a set-up stone. Where the first node stands on line 2 there is no stone.
+fn free_on(table: &[u32], head: Head) -> Result<(), Verdict>
+    requires { SomeWhole table.now head.grid.board head.set_up }
+    ensures { (s : Sheet) → HoldsWhole table.now head.grid.board head.set_up s → checked result ≡ refuse_fault OnSetUp (first_on_set_up s) }
+{
+    let SetUp { stones, first } = head.set_up;
+    let no_stone = first == 2;
+    if no_stone {
+        return Ok(());
+    }
+    match on_set_up(table, head.grid, stones.own.union(stones.opp)) {
+        None => Ok(()),
+        Some(fault) => Err(Verdict::OnSetUp {
+            line: line_of(fault.node, first),
+            cell: fault.cell,
+        }),
+    }
+}
+
+// 10: a move that is not apart.
+fn apart_on(table: &[u32], head: Head) -> Result<(), Verdict>
+    requires { SomeWhole table.now head.grid.board head.set_up }
+    ensures { (s : Sheet) → HoldsWhole table.now head.grid.board head.set_up s → checked result ≡ refuse_fault NotApart (first_not_apart s) }
+{
+    match not_apart(table, head.grid) {
+        None => Ok(()),
+        Some(fault) => Err(Verdict::NotApart {
+            line: line_of(fault.node, head.set_up.first),
+            cell: fault.cell,
+        }),
+    }
+}
+
+// 24: a wait that has a branch twice.
+fn single_on(table: &[u32], head: Head) -> Result<(), Verdict>
+    requires { SomeWhole table.now head.grid.board head.set_up }
+    ensures { (s : Sheet) → HoldsWhole table.now head.grid.board head.set_up s → checked result ≡ refuse_fault (λ line cell. SameBranch line) (first_twice s) }
+{
+    match branch_twice(table) {
+        None => Ok(()),
+        Some(node) => Err(Verdict::SameBranch {
+            line: line_of(node, head.set_up.first),
+        }),
+    }
+}
+
 // 11: a wait that is not elusive; or how many moves aren't live.
-fn elusive_on(table: &[u32], board: Board, first: u32) -> Checked
-    requires holds { SomeSheet table.now board }
-    requires low { first ≤ most_bytes + 2 }
-    ensures { (s : Sheet) → HoldsSheet table.now board s → first ≡ s.root.line → Says s (from_elusive s) result }
+fn elusive_on(table: &[u32], head: Head) -> Result<usize, Verdict>
+    requires { SomeWhole table.now head.grid.board head.set_up }
+    ensures { (s : Sheet) → HoldsWhole table.now head.grid.board head.set_up s → (checked result ≡ refuse_fault NotElusive (first_not_elusive s)) × IfOk result (λ idle. idle ≡ idle_count s) }
 {
-    let found = not_elusive(table, board);
-    match found {
-        Elusive::Not { node, cell } => {
-            let line = line_of(node, first);
-            Checked::Refused {
-                verdict: Verdict::NotElusive { line, cell },
-            }
-        }
-        Elusive::All { idle } => Checked::Passed { idle },
-    }
-}
-
-// 24: a wait that has a branch twice; and then 11.
-fn single_on(table: &[u32], board: Board, first: u32) -> Checked
-    requires holds { SomeSheet table.now board }
-    requires low { first ≤ most_bytes + 2 }
-    ensures { (s : Sheet) → HoldsSheet table.now board s → first ≡ s.root.line → Says s (from_twice s) result }
-{
-    if let Fault::At { node, .. } = branch_twice(table) {
-        let line = line_of(node, first);
-        return Checked::Refused {
-            verdict: Verdict::SameBranch { line },
-        };
-    }
-    elusive_on(table, board, first)
-}
-
-// 10: a move that is not apart; and then 24, 11.
-fn apart_on(table: &[u32], board: Board, first: u32) -> Checked
-    requires holds { SomeSheet table.now board }
-    requires low { first ≤ most_bytes + 2 }
-    ensures { (s : Sheet) → HoldsSheet table.now board s → first ≡ s.root.line → Says s (from_apart s) result }
-{
-    if let Fault::At { node, cell } = not_apart(table, board) {
-        let line = line_of(node, first);
-        return Checked::Refused {
-            verdict: Verdict::NotApart { line, cell },
-        };
-    }
-    single_on(table, board, first)
-}
-
-// 20: a move on a set-up stone; and then 10, 24, 11.
-fn free_on(table: &[u32], board: Board, setup: SetUp) -> Checked
-    requires { SomeWhole table.now board setup }
-    ensures { (s : Sheet) → HoldsWhole table.now board setup s → Says s (from_free s) result }
-{
-    let own = setup.own;
-    let opp = setup.opp;
-    let first = setup.first;
-    let stones = own.union(opp);
-    if let Fault::At { node, cell } = on_set_up(table, board, stones) {
-        let line = line_of(node, first);
-        return Checked::Refused {
-            verdict: Verdict::OnSetUp { line, cell },
-        };
-    }
-    apart_on(table, board, first)
-}
-
-// The checks over every line: 20, 10, 24, 11. Where the first node stands on line 2 there is no stone for 20.
-fn every_line(table: &[u32], board: Board, setup: SetUp) -> Checked
-    requires { SomeWhole table.now board setup }
-    ensures { (s : Sheet) → HoldsWhole table.now board setup s → Says s (from_free s) result }
-{
-    let first = setup.first;
-    if first == 2 {
-        return apart_on(table, board, first);
-    }
-    free_on(table, board, setup)
+    not_elusive(table, head.grid).map_err(|fault| Verdict::NotElusive {
+        line: line_of(fault.node, head.set_up.first),
+        cell: fault.cell,
+    })
 }
 
 // 12: more than 65,536 outcomes, of a sheet whose table has its live moves alone.
-fn few_on(table: &[u32], board: Board, idle: usize) -> FairRead
-    requires { SomeLiving table.now board idle }
-    ensures { (s : Sheet) → KeepsLive table.now board s idle → Tells table.now board s (from_count s) result }
+fn few_on(table: &[u32], grid: Grid, idle: usize) -> Result<Fair, Verdict>
+    requires { SomeLiving table.now grid.board idle }
+    ensures { (s : Sheet) → KeepsLive table.now grid.board s idle → Tells table.now grid.board s (from_count s) result }
 {
     let outcomes = count_at(table, 0);
-    if 65536 < outcomes {
-        return FairRead::Refused {
-            verdict: Verdict::TooManyOutcomes,
-        };
+    let too_many = 65536 < outcomes;
+    if too_many {
+        return Err(Verdict::TooManyOutcomes);
     }
-    FairRead::Got {
+    Ok(Fair {
         outcomes: outcomes as u32,
         idle: idle as u32,
-    }
+    })
 }
 
 // Whether the sheet in the table is fair: 20, 10, 24, 11, and then, without the moves that aren't live, 12.
-pub fn fair_sheet(table: &mut [u32], board: Board, setup: SetUp) -> FairRead
-    requires { SomeWhole table.old board setup }
-    ensures { (s : Sheet) → HoldsWhole table.old board setup s → Tells table.new board s (fair s) result }
+pub fn fair_sheet(table: &mut [u32], head: Head) -> Result<Fair, Verdict>
+    requires { SomeWhole table.old head.grid.board head.set_up }
+    ensures { (s : Sheet) → HoldsWhole table.old head.grid.board head.set_up s → Tells table.new head.grid.board s (fair s) result }
 {
-    let checked = every_line(table, board, setup);
-    match checked {
-        Checked::Refused { verdict } => FairRead::Refused { verdict },
-        Checked::Passed { idle } => {
-            keep_live(table, board, idle);
-            few_on(table, board, idle)
-        }
-    }
+    free_on(table, head)?;
+    apart_on(table, head)?;
+    single_on(table, head)?;
+    let idle = elusive_on(table, head)?;
+    keep_live(table, head.grid, idle);
+    few_on(table, head.grid, idle)
 }
 
 // How many moves the sheet in the table has.
@@ -169,64 +139,39 @@ fn count_moves(table: &[u32]) -> usize
     requires { (b : declared.Board) × SomeSheet table.now b }
     ensures { (b : declared.Board) (s : Sheet) → HoldsSheet table.now b s → result ≡ move_count s }
 {
-    let end = end_at(table, 0);
-    let mut moves = 0;
-    let mut i = 0;
-    while i < end {
-        if is_move(table, i) {
-            moves += 1;
-        }
-        i += 1;
-    }
-    moves
+    (0..end_at(table, 0)).filter(|&i| is_move(table, i)).count()
 }
 
 // Whether the sheet in the table is fair and satisfying: 20, 10, 24, 11, 12, 13.
-pub fn accept_sheet(table: &mut [u32], board: Board, player: Player, setup: SetUp) -> AcceptedRead
-    requires { SomeWhole table.old board setup }
-    ensures { (s : Sheet) → HoldsWhole table.old board setup s → s.player ≡ player → TellsAll table.new board s result }
+pub fn accept_sheet(table: &mut [u32], head: Head) -> Result<Accepted, Verdict>
+    requires { SomeWhole table.old head.grid.board head.set_up }
+    ensures { (s : Sheet) → HoldsWhole table.old head.grid.board head.set_up s → s.player ≡ head.player → TellsAll table.new head.grid.board s result }
 {
-    let read = fair_sheet(table, board, setup);
-    match read {
-        FairRead::Refused { verdict } => AcceptedRead::Refused { verdict },
-        FairRead::Got { outcomes, idle } => {
-            let own = setup.own;
-            let found = first_unjoined(table, board, player, 0, own);
-            match found {
-                Unjoined::First { number } => AcceptedRead::Refused {
-                    verdict: Verdict::NotJoined { index: number },
-                },
-                Unjoined::Nothing { passed } => AcceptedRead::Got {
-                    outcomes,
-                    passed,
-                    idle,
-                },
-            }
-        }
-    }
+    let fair = fair_sheet(table, head)?;
+    let passed = first_unjoined(table, head.grid, head.player, 0, head.set_up.stones.own)?;
+    Ok(Accepted {
+        outcomes: fair.outcomes,
+        passed,
+        idle: fair.idle,
+    })
 }
 
 // The verdict on the sheet in the table, with its counts. Moves and waits are counted on every line.
-pub fn judge_table(table: &mut [u32], board: Board, player: Player, setup: SetUp) -> Verdict
-    requires { SomeWhole table.old board setup }
-    ensures { (s : Sheet) → HoldsWhole table.old board setup s → s.player ≡ player → result ≡ judged (passing s) }
+pub fn judge_table(table: &mut [u32], head: Head) -> Verdict
+    requires { SomeWhole table.old head.grid.board head.set_up }
+    ensures { (s : Sheet) → HoldsWhole table.old head.grid.board head.set_up s → s.player ≡ head.player → result ≡ judged (passing s) }
 {
     let moves = count_moves(table);
     let waits = end_at(table, 0) - moves;
-    let accepted = accept_sheet(table, board, player, setup);
-    match accepted {
-        AcceptedRead::Refused { verdict } => verdict,
-        AcceptedRead::Got {
-            outcomes,
-            passed,
-            idle,
-        } => Verdict::Accepted {
+    match accept_sheet(table, head) {
+        Err(verdict) => verdict,
+        Ok(accepted) => Verdict::Accepted {
             counts: Counts {
                 moves: moves as u32,
                 waits: waits as u32,
-                outcomes,
-                passed,
-                idle,
+                outcomes: accepted.outcomes,
+                passed: accepted.passed,
+                idle: accepted.idle,
             },
         },
     }

@@ -1,7 +1,3 @@
-pub mod Steps
-pub mod Bytes
 pub mod Digits
-pub mod NumberIn
-pub mod HeaderParts
-pub mod NodeParts
+pub mod Either
 pub mod OneReply

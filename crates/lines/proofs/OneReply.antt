@@ -1,93 +1,104 @@
--- A line is read in one way: two answers that the contract of `header_line`, of `set_up_line` or of `node_line` allows are equal.
-use mathlib.Core.Path.{◌≡◌, refl, sym, ap, subst, subst⁻¹, ◌∙◌}
+-- A line is read in one way: two answers that the contract of `header_line`, of `set_up_line` or of `node_line` allows say the same, and the
+-- text after it is the same.
+use mathlib.Core.Path.{◌≡◌, refl, sym, ap, ap₂, ◌∙◌}
 use Prim.Native.Nat.{ℕ}
-use native.Mathlib.Omega.{arith}
-use mathlib.Core.Option.{Option, none, some}
-use lib.ListN.{length, drop, length-drop}
-use Rattle.rules.specs.Lines.{reader_of}
+use Rattle.std.specs.Prelude as code
+use Rattle.std.specs.Borrow.{Bor}
 use Rattle.rules.specs.Text.{Bytes, Reader}
 use Rattle.rules.specs.Lines as L
-use Rattle.rules.proofs.Steps.{none≢some, some_inj}
-use Rattle.lines.specs.Seen.{Reads, place_of, line_seen, side_of, set_up_seen, header_seen}
+use Rattle.rules.proofs.Steps.{some_inj}
 use Rattle.rules.specs.declared.LineKind.{LineKind}
-use Rattle.lines.specs.declared.nodes.Cell.{Cell}
-use Rattle.lines.specs.declared.nodes.LineRead.{LineRead}
+use Rattle.lines.specs.Seen.{Reads, skipped, seen_as, number_seen, place_seen, place_of, name_of, said, line_seen, side_of, set_up_of, set_up_seen, header_of, header_seen}
+use Rattle.lines.specs.declared.nodes.Place.{Place}
+use Rattle.lines.specs.declared.nodes.Line.{Line}
 use Rattle.lines.specs.declared.set_up.Side.{Side}
-use Rattle.lines.specs.declared.set_up.SetUpRead.{SetUpRead}
-use Rattle.lines.specs.declared.header.HeaderRead.{HeaderRead}
+use Rattle.lines.specs.declared.set_up.SetUpLine.{SetUpLine}
+use Rattle.lines.specs.declared.header.Header.{Header}
 
--- what a reader gives at a place, and where the text goes on after it
-one_read : {A : Type 0} {s : Bytes} {at : ℕ} {reader : Reader A} (x y : Option (A × ℕ)) → Reads s at reader x → Reads s at reader y → x ≡ y
-one_read none none p q = refl
-one_read none (some y) p q = absurd (none≢some (p.same ∙ sym q.same))
-one_read (some x) none p q = absurd (none≢some (q.same ∙ sym p.same))
-one_read {A} {s} (some x) (some y) p q =
-    let e : ◌≡◌ {A = A × Bytes} (x.0, drop x.1 s) (y.0, drop y.1 s) = some_inj (p.same ∙ sym q.same) in
-    let rest : length (drop x.1 s) ≡ length (drop y.1 s) = ap (λ (z : A × Bytes). length z.1) e in
-    let next : x.1 ≡ y.1 = omega (arith, rest, length-drop x.1 s, length-drop y.1 s, p.passed.inside, q.passed.inside) in
-    ◌∙◌ {b = some (y.0, x.1)} (ap (λ (a : A). some (a, x.1)) (ap (λ (z : A × Bytes). z.0) e)) (ap (λ (n : ℕ). some (y.0, n)) next)
+-- two answers that say the same, with the same text after it
+abbrev pub Alike : {X : Type 0} → (r r' : code.Option (X × Bor Bytes)) → Type 0
+Alike code.None code.None = Unit {0}
+Alike code.None (code.Some y) = ⊥
+Alike (code.Some x) code.None = ⊥
+Alike (code.Some x) (code.Some y) = (x.0 ≡ y.0) × (x.1.now ≡ y.1.now)
 
-abbrev IsOwn : L.Side → Type 0
-IsOwn L.own = Unit {0}
-IsOwn L.opp = ⊥
+module _ {X A : Type 0} (f : X → A) (one : (x y : X) → f x ≡ f y → x ≡ y) where
+  seen_alike : (r r' : code.Option (X × Bor Bytes)) → seen_as f r ≡ seen_as f r' → Alike r r'
+  seen_alike code.None code.None e = tt
+  seen_alike code.None (code.Some y) e = cc
+  seen_alike (code.Some x) code.None e = cc
+  seen_alike (code.Some x) (code.Some y) e =
+      let f-rest = some_inj e in
+      (one x.0 y.0 (ap (λ (z : A × Bytes). z.0) f-rest), ap (λ (z : A × Bytes). z.1) f-rest)
 
-pub one_header : {s : Bytes} (r r' : HeaderRead) → Reads s 0 L.header_line (header_seen r) → Reads s 0 L.header_line (header_seen r') → r ≡ r'
-one_header r r' p q = seen r r' (one_read (header_seen r) (header_seen r') p q)
-  where
-    seen : (r r' : HeaderRead) → header_seen r ≡ header_seen r' → r ≡ r'
-    seen (HeaderRead.Got b p i) (HeaderRead.Got b' p' i') e =
-        let f = some_inj e in
-        let same-board = ap (λ (z : L.Header × ℕ). z.0.board) f in
-        let same-player = ap (λ (z : L.Header × ℕ). z.0.player) f in
-        let same_end = ap (λ (z : L.Header × ℕ). z.1) f in
-        cc
-    seen (HeaderRead.Got b p i) HeaderRead.Nothing e = absurd (none≢some (sym e))
-    seen HeaderRead.Nothing (HeaderRead.Got b p i) e = absurd (none≢some e)
-    seen HeaderRead.Nothing HeaderRead.Nothing e = refl
+  -- what a reader gives, and the text after it
+  one_read : {s : Bytes} {reader : Reader A} (r r' : code.Option (X × Bor Bytes)) → Reads s reader (seen_as f r) → Reads s reader (seen_as f r') → Alike r r'
+  one_read r r' p q = seen_alike r r' (p.same ∙ sym q.same)
+
+-- a number
+pub one_number : {s : Bytes} {reader : Reader ℕ} (r r' : code.Option (ℕ × Bor Bytes)) → Reads s reader (number_seen r) → Reads s reader (number_seen r') → Alike r r'
+one_number = one_read (λ n. n) (λ m n e. e)
+
+-- a byte: the text after it is the same
+abbrev pub SameRest : (r r' : code.Option (Bor Bytes)) → Type 0
+SameRest code.None code.None = Unit {0}
+SameRest code.None (code.Some y) = ⊥
+SameRest (code.Some x) code.None = ⊥
+SameRest (code.Some x) (code.Some y) = x.now ≡ y.now
+
+same_rest : (r r' : code.Option (Bor Bytes)) → skipped r ≡ skipped r' → SameRest r r'
+same_rest code.None code.None e = tt
+same_rest code.None (code.Some y) e = cc
+same_rest (code.Some x) code.None e = cc
+same_rest (code.Some x) (code.Some y) e = ap (λ (z : Unit {0} × Bytes). z.1) (some_inj e)
+
+pub one_byte : {s : Bytes} {reader : Reader (Unit {0})} (r r' : code.Option (Bor Bytes)) → Reads s reader (skipped r) → Reads s reader (skipped r') → SameRest r r'
+one_byte r r' p q = same_rest r r' (p.same ∙ sym q.same)
+
+-- line 1
+same_header : (h h' : Header) → header_of h ≡ header_of h' → h ≡ h'
+same_header h h' e = ap (λ (z : L.Header). let back : Header = record { board = z.board; player = z.player } in back) e
+
+pub one_header : {s : Bytes} (r r' : code.Option (Header × Bor Bytes))
+    → Reads s L.header_line (header_seen r) → Reads s L.header_line (header_seen r') → Alike r r'
+one_header = one_read header_of same_header
+
+-- a set-up line
+same_place : (p p' : Place) → place_of p ≡ place_of p' → p ≡ p'
+same_place p p' e = ap (λ (z : L.Place). let back : Place = record { column = z.column; row = z.row } in back) e
 
 same_side : (o o' : Side) → side_of o ≡ side_of o' → o ≡ o'
 same_side Side.Own Side.Own e = refl
 same_side Side.Opp Side.Opp e = refl
-same_side Side.Own Side.Opp e = absurd (subst IsOwn e tt)
-same_side Side.Opp Side.Own e = absurd (subst⁻¹ IsOwn e tt)
+same_side Side.Own Side.Opp e = cc
+same_side Side.Opp Side.Own e = cc
 
-pub one_set_up : {s : Bytes} {at : ℕ} (r r' : SetUpRead) → Reads s at L.set_up_line (set_up_seen r) → Reads s at L.set_up_line (set_up_seen r') → r ≡ r'
-one_set_up r r' p q = seen r r' (one_read (set_up_seen r) (set_up_seen r') p q)
-  where
-    seen : (r r' : SetUpRead) → set_up_seen r ≡ set_up_seen r' → r ≡ r'
-    seen (SetUpRead.Got o c r i) (SetUpRead.Got o' c' r' i') e =
-        let f = some_inj e in
-        let side = same_side o o' (ap (λ (z : L.SetUpLine × ℕ). z.0.side) f) in
-        let column = ap (λ (z : L.SetUpLine × ℕ). z.0.place.column) f in
-        let row = ap (λ (z : L.SetUpLine × ℕ). z.0.place.row) f in
-        let next = ap (λ (z : L.SetUpLine × ℕ). z.1) f in
-        cc
-    seen (SetUpRead.Got o c r i) SetUpRead.Nothing e = absurd (none≢some (sym e))
-    seen SetUpRead.Nothing (SetUpRead.Got o c r i) e = absurd (none≢some e)
-    seen SetUpRead.Nothing SetUpRead.Nothing e = refl
+same_set_up : (l l' : SetUpLine) → set_up_of l ≡ set_up_of l' → l ≡ l'
+same_set_up l l' e =
+    ap₂ (λ (o : Side) (p : Place). let line : SetUpLine = record { side = o; place = p } in line)
+    (same_side l.side l'.side (ap (λ (z : L.SetUpLine). z.side) e))
+    (same_place l.place l'.place (ap (λ (z : L.SetUpLine). z.place) e))
 
-same_cell : (c d : Cell) → place_of c ≡ place_of d → c ≡ d
-same_cell (Cell.At a b) (Cell.At c d) e =
-    let f = some_inj e in
-    let same-column = ap (λ (z : L.Place). z.column) f in
-    let same_row = ap (λ (z : L.Place). z.row) f in
-    cc
-same_cell (Cell.At a b) Cell.Unnamed e = absurd (none≢some (sym e))
-same_cell Cell.Unnamed (Cell.At c d) e = absurd (none≢some e)
-same_cell Cell.Unnamed Cell.Unnamed e = refl
+pub one_place : {s : Bytes} (r r' : code.Option (Place × Bor Bytes)) → Reads s L.place (place_seen r) → Reads s L.place (place_seen r') → Alike r r'
+one_place = one_read place_of same_place
 
-pub one_line : {s : Bytes} {at : ℕ} (k : LineKind) (r r' : LineRead) → Reads s at (reader_of k) (line_seen r) → Reads s at (reader_of k) (line_seen r') → r ≡ r'
-one_line k r r' p q = seen r r' (one_read (line_seen r) (line_seen r') p q)
-  where
-    seen : (r r' : LineRead) → line_seen r ≡ line_seen r' → r ≡ r'
-    seen (LineRead.Got l i) (LineRead.Got l' i') e =
-        let f = some_inj e in
-        let cell = same_cell l.cell l'.cell (ap (λ (z : L.Line × ℕ). z.0.place) f) in
-        let under = ap (λ (z : L.Line × ℕ). z.0.under) f in
-        let next = ap (λ (z : L.Line × ℕ). z.1) f in
-        ap (λ (c : Cell). LineRead.Got (record { cell = c; under = l.under }) i) cell
-        ∙ ap (λ (n : ℕ). LineRead.Got (record { cell = l'.cell; under = n }) i) under
-        ∙ ap (LineRead.Got l') next
-    seen (LineRead.Got l i) LineRead.Nothing e = absurd (none≢some (sym e))
-    seen LineRead.Nothing (LineRead.Got l i) e = absurd (none≢some e)
-    seen LineRead.Nothing LineRead.Nothing e = refl
+pub one_set_up : {s : Bytes} (r r' : code.Option (SetUpLine × Bor Bytes))
+    → Reads s L.set_up_line (set_up_seen r) → Reads s L.set_up_line (set_up_seen r') → Alike r r'
+one_set_up = one_read set_up_of same_set_up
+
+-- a node's line
+same_name : (c d : code.Option Place) → name_of c ≡ name_of d → c ≡ d
+same_name (code.Some p) (code.Some q) e = ap code.Some (same_place p q (some_inj e))
+same_name (code.Some p) code.None e = cc
+same_name code.None (code.Some q) e = cc
+same_name code.None code.None e = refl
+
+same_line : (l l' : Line) → said l ≡ said l' → l ≡ l'
+same_line l l' e =
+    ap₂ (λ (p : code.Option Place) (n : ℕ). let line : Line = record { place = p; under = n } in line)
+    (same_name l.place l'.place (ap (λ (z : L.Line). z.place) e))
+    (ap (λ (z : L.Line). z.under) e)
+
+pub one_line : {s : Bytes} (k : LineKind) (r r' : code.Option (Line × Bor Bytes))
+    → Reads s (L.reader_of k) (line_seen r) → Reads s (L.reader_of k) (line_seen r') → Alike r r'
+one_line k = one_read said same_line

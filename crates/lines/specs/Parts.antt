@@ -7,40 +7,40 @@ use Rattle.rules.specs.Lines.{Place, Line, place, move_line, dash_line}
 use Rattle.rules.specs.declared.Board.{Board}
 
 -- a word of three letters
-unfoldable pub three : (first second third : ℕ) → Reader (Unit {0})
+abbrev pub three : (first second third : ℕ) → Reader (Unit {0})
 three a b c = byte a >> (byte b >> (byte c >> give tt))
 
 -- a line's first letter and the tab after it
-unfoldable pub begun : ℕ → Reader (Unit {0})
+abbrev pub begun : ℕ → Reader (Unit {0})
 begun b = byte b >> tab
 
 -- a tab, and the columns or the rows of a board
-unfoldable pub size : Reader ℕ
+abbrev pub size : Reader ℕ
 size = tab >> number_in 1 largest
 
-unfoldable pub board : Reader Board
+abbrev pub board : Reader Board
 board = do
   c ← size
   r ← size
   give (record { columns = c; rows = r })
 
 -- a line's last field, and the line's end
-unfoldable pub closed : {A : Type 0} → Reader A → Reader A
+abbrev pub closed : {A : Type 0} → Reader A → Reader A
 closed field = do
   a ← field
   line_feed
   give a
 
 -- a cell, or where it may stand, `-` instead
-unfoldable pub a_cell : Reader (Option Place)
+abbrev pub a_cell : Reader (Option Place)
 a_cell = do
   p ← place
   give (some p)
 
-unfoldable pub dashed : Reader (Option Place)
+abbrev pub dashed : Reader (Option Place)
 dashed = word "-" >> give none
 
-unfoldable pub name : (dash : Bool) → Reader (Option Place)
+abbrev pub name : (dash : Bool) → Reader (Option Place)
 name false = a_cell
 name true = a_cell or_else dashed
 

@@ -1,92 +1,84 @@
--- What the reading functions answer, beside what the readers of rules answer: a place in the text stands for the text from there on.
-use Rattle.std.specs.Prelude.{◌≡◌, ℕ, ◌<◌, ◌≤◌, length, drop}
+-- What the reading functions answer, beside what the readers of rules answer: what was read, by the paper's words, and the text after it.
+use Rattle.std.specs.Prelude.{◌≡◌, ℕ, ◌<◌, length}
+use Rattle.std.specs.Prelude as code
+use Rattle.std.specs.Borrow.{Bor}
 use Rattle.std.proofs.Math.Option.{Option, none, some}
 use Rattle.rules.specs.Text.{Bytes, Reader}
 use Rattle.rules.specs.Lines as L
 use Rattle.rules.specs.declared.Board.{Board}
 use Rattle.rules.specs.declared.Player.{Player}
-use Rattle.lines.specs.declared.numbers.Next.{Next}
-use Rattle.lines.specs.declared.numbers.NumberRead.{NumberRead}
-use Rattle.lines.specs.declared.nodes.PlaceRead.{PlaceRead}
-use Rattle.lines.specs.declared.nodes.Cell.{Cell}
-use Rattle.lines.specs.declared.nodes.CellRead.{CellRead}
+use Rattle.lines.specs.declared.nodes.Place.{Place}
 use Rattle.lines.specs.declared.nodes.Line.{Line}
-use Rattle.lines.specs.declared.nodes.LineRead.{LineRead}
 use Rattle.lines.specs.declared.set_up.Side.{Side}
-use Rattle.lines.specs.declared.set_up.SideRead.{SideRead}
-use Rattle.lines.specs.declared.set_up.SetUpRead.{SetUpRead}
-use Rattle.lines.specs.declared.header.BoardRead.{BoardRead}
-use Rattle.lines.specs.declared.header.PlayerRead.{PlayerRead}
-use Rattle.lines.specs.declared.header.HeaderRead.{HeaderRead}
+use Rattle.lines.specs.declared.set_up.SetUpLine.{SetUpLine}
+use Rattle.lines.specs.declared.header.Header.{Header}
 
--- what was read, and the place after it, as a reader's answer
-abbrev pub from_place : {A : Type 0} → Bytes → Option (A × ℕ) → Option (A × Bytes)
-from_place s none = none
-from_place s (some x) = some (x.0, drop x.1 s)
+-- the text after what was read is shorter
+abbrev pub Shorter : {A : Type 0} → Bytes → Option (A × Bytes) → Type 0
+Shorter s none = Unit {0}
+Shorter s (some x) = length x.1 < length s
 
--- the place after what was read lies past the place where it began, and in the text
-pub record Passed (s : Bytes) (at next : ℕ) : Type 0 where
-  pub on : at < next
-  pub inside : next ≤ length s
+-- of a text, the reader gives this answer
+pub record Reads {A : Type 0} (s : Bytes) (reader : Reader A) (answer : Option (A × Bytes)) : Type 0 where
+  pub same : answer ≡ reader s
+  pub shorter : Shorter s answer
 
-abbrev pub PassedTo : {A : Type 0} → Bytes → ℕ → Option (A × ℕ) → Type 0
-PassedTo s at none = Unit {0}
-PassedTo s at (some x) = Passed s at x.1
+-- the text after what has nothing to say
+abbrev pub skipped : code.Option (Bor Bytes) → Option (Unit {0} × Bytes)
+skipped (code.Some t) = some (tt, t.now)
+skipped code.None = none
 
--- at a place of the text, the reader gives this answer
-pub record Reads {A : Type 0} (s : Bytes) (at : ℕ) (reader : Reader A) (answer : Option (A × ℕ)) : Type 0 where
-  pub same : from_place s answer ≡ reader (drop at s)
-  pub passed : PassedTo s at answer
+-- what was read, as f sees it, and the text after it
+abbrev pub seen_as : {A B : Type 0} → (A → B) → code.Option (A × Bor Bytes) → Option (B × Bytes)
+seen_as f (code.Some x) = some (f x.0, x.1.now)
+seen_as f code.None = none
 
-abbrev pub next_seen : Next → Option (Unit {0} × ℕ)
-next_seen (Next.At i) = some (tt, i)
-next_seen Next.Nothing = none
+abbrev pub number_seen : code.Option (ℕ × Bor Bytes) → Option (ℕ × Bytes)
+number_seen = seen_as (λ n. n)
 
-abbrev pub number_seen : NumberRead → Option (ℕ × ℕ)
-number_seen (NumberRead.Got n i) = some (n, i)
-number_seen NumberRead.Nothing = none
+-- a cell by its column and row
+abbrev pub place_of : Place → L.Place
+place_of p = record { column = p.column; row = p.row }
 
-abbrev pub place_seen : PlaceRead → Option (L.Place × ℕ)
-place_seen (PlaceRead.Got c r i) = some (record { column = c; row = r }, i)
-place_seen PlaceRead.Nothing = none
+abbrev pub place_seen : code.Option (Place × Bor Bytes) → Option (L.Place × Bytes)
+place_seen = seen_as place_of
 
 -- the cell that a line names, if it names one
-abbrev pub place_of : Cell → Option L.Place
-place_of (Cell.At c r) = some (record { column = c; row = r })
-place_of Cell.Unnamed = none
+abbrev pub name_of : code.Option Place → Option L.Place
+name_of (code.Some p) = some (place_of p)
+name_of code.None = none
 
-abbrev pub cell_seen : CellRead → Option (Option L.Place × ℕ)
-cell_seen (CellRead.Got c i) = some (place_of c, i)
-cell_seen CellRead.Nothing = none
+abbrev pub name_seen : code.Option (code.Option Place × Bor Bytes) → Option (Option L.Place × Bytes)
+name_seen = seen_as name_of
 
 abbrev pub said : Line → L.Line
-said l = record { place = place_of l.cell; under = l.under }
+said l = record { place = name_of l.place; under = l.under }
 
-abbrev pub line_seen : LineRead → Option (L.Line × ℕ)
-line_seen (LineRead.Got l i) = some (said l, i)
-line_seen LineRead.Nothing = none
+abbrev pub line_seen : code.Option (Line × Bor Bytes) → Option (L.Line × Bytes)
+line_seen = seen_as said
 
 -- whose a set-up stone is
 abbrev pub side_of : Side → L.Side
 side_of Side.Own = L.own
 side_of Side.Opp = L.opp
 
-abbrev pub side_seen : SideRead → Option (L.Side × ℕ)
-side_seen (SideRead.Got o i) = some (side_of o, i)
-side_seen SideRead.Nothing = none
+abbrev pub side_seen : code.Option (Side × Bor Bytes) → Option (L.Side × Bytes)
+side_seen = seen_as side_of
 
-abbrev pub set_up_seen : SetUpRead → Option (L.SetUpLine × ℕ)
-set_up_seen (SetUpRead.Got o c r i) = some (record { side = side_of o; place = record { column = c; row = r } }, i)
-set_up_seen SetUpRead.Nothing = none
+abbrev pub set_up_of : SetUpLine → L.SetUpLine
+set_up_of l = record { side = side_of l.side; place = place_of l.place }
 
-abbrev pub board_seen : BoardRead → Option (Board × ℕ)
-board_seen (BoardRead.Got b i) = some (b, i)
-board_seen BoardRead.Nothing = none
+abbrev pub set_up_seen : code.Option (SetUpLine × Bor Bytes) → Option (L.SetUpLine × Bytes)
+set_up_seen = seen_as set_up_of
 
-abbrev pub player_seen : PlayerRead → Option (Player × ℕ)
-player_seen (PlayerRead.Got p i) = some (p, i)
-player_seen PlayerRead.Nothing = none
+abbrev pub board_seen : code.Option (Board × Bor Bytes) → Option (Board × Bytes)
+board_seen = seen_as (λ b. b)
 
-abbrev pub header_seen : HeaderRead → Option (L.Header × ℕ)
-header_seen (HeaderRead.Got b p i) = some (record { board = b; player = p }, i)
-header_seen HeaderRead.Nothing = none
+abbrev pub player_seen : code.Option (Player × Bor Bytes) → Option (Player × Bytes)
+player_seen = seen_as (λ p. p)
+
+abbrev pub header_of : Header → L.Header
+header_of h = record { board = h.board; player = h.player }
+
+abbrev pub header_seen : code.Option (Header × Bor Bytes) → Option (L.Header × Bytes)
+header_seen = seen_as header_of

@@ -1,119 +1,79 @@
 // Line 1: the board and the player.
 ghost use Rattle.rules.specs.Lines as L;
 ghost use Rattle.lines.specs.Parts as parts;
-ghost use Rattle.lines.specs.Seen.{Reads, number_seen, board_seen, player_seen, header_seen};
+ghost use Rattle.lines.specs.Seen.{Reads, skipped, number_seen, board_seen, player_seen, header_seen};
 
-use crate::numbers::{Next, NumberRead, byte_at, number_in, word_at};
+use crate::numbers::{byte_at, number_in};
 use rules::{Board, Player};
 
 // A board has 1 to 19 columns and 1 to 19 rows.
 const LARGEST: u32 = 19;
 
-// A tab, and the columns or the rows of a board.
-fn size_at(s: &[u8], at: usize) -> NumberRead
-    ensures { Reads s.now at parts.size (number_seen result) }
+// The word with which line 1 begins.
+#[tactic(auto, unfolding(rules::specs::Text::bind, rules::specs::Text::guard, rules::specs::Text::give, rules::specs::Text::any_byte, rules::specs::Text::byte))]
+fn hex_at(s: &[u8]) -> Option<&[u8]>
+    ensures { Reads s.now (parts.three 104 101 120) (skipped result) }
 {
-    let Next::At(number) = byte_at(s, at, b'\t') else {
-        return NumberRead::Nothing;
-    };
-    number_in(s, number, 1, LARGEST)
+    s.strip_prefix(b"hex")
 }
 
-// A board, and where the text goes on after it.
-#[derive(Clone, Copy)]
-enum BoardRead {
-    Got { board: Board, next: usize },
-    Nothing,
+// A tab, and the columns or the rows of a board.
+fn size_at(s: &[u8]) -> Option<(u32, &[u8])>
+    ensures { Reads s.now parts.size (number_seen result) }
+{
+    let number = byte_at(s, b'\t')?;
+    number_in(number, 1, LARGEST)
 }
 
 // The columns and the rows, a tab before each.
-fn board_at(s: &[u8], at: usize) -> BoardRead
-    ensures { Reads s.now at parts.board (board_seen result) }
+fn board_at(s: &[u8]) -> Option<(Board, &[u8])>
+    ensures { Reads s.now parts.board (board_seen result) }
 {
-    let NumberRead::Got {
-        value: columns,
-        next: middle,
-    } = size_at(s, at)
-    else {
-        return BoardRead::Nothing;
+    let (columns, middle) = size_at(s)?;
+    let (rows, rest) = size_at(middle)?;
+    let board = Board {
+        columns: columns as usize,
+        rows: rows as usize,
     };
-    let NumberRead::Got { value: rows, next } = size_at(s, middle) else {
-        return BoardRead::Nothing;
-    };
-    BoardRead::Got {
-        board: Board {
-            columns: columns as usize,
-            rows: rows as usize,
-        },
-        next,
-    }
-}
-
-// A player, and where the text goes on after it.
-#[derive(Clone, Copy)]
-enum PlayerRead {
-    Got { player: Player, next: usize },
-    Nothing,
+    Some((board, rest))
 }
 
 // `D` or `A`.
-fn player_at(s: &[u8], at: usize) -> PlayerRead
-    ensures { Reads s.now at L.player (player_seen result) }
+#[tactic(auto, using(crate::proofs::Either::first_way, crate::proofs::Either::other_way), unfolding(rules::specs::Text::bind, rules::specs::Text::guard, rules::specs::Text::give, rules::specs::Text::any_byte, rules::specs::Text::byte, rules::specs::Text::word, rules::specs::Lines::player))]
+fn player_at(s: &[u8]) -> Option<(Player, &[u8])>
+    ensures { Reads s.now L.player (player_seen result) }
 {
-    if let Next::At(next) = byte_at(s, at, b'D') {
-        return PlayerRead::Got {
-            player: Player::D,
-            next,
-        };
+    let (&letter, rest) = s.split_first()?;
+    match letter {
+        b'D' => Some((Player::D, rest)),
+        b'A' => Some((Player::A, rest)),
+        _ => None,
     }
-    if let Next::At(next) = byte_at(s, at, b'A') {
-        return PlayerRead::Got {
-            player: Player::A,
-            next,
-        };
-    }
-    PlayerRead::Nothing
 }
 
 // `D` or `A`, and the line's end.
-fn player_end(s: &[u8], at: usize) -> PlayerRead
-    ensures { Reads s.now at (parts.closed L.player) (player_seen result) }
+fn player_end(s: &[u8]) -> Option<(Player, &[u8])>
+    ensures { Reads s.now (parts.closed L.player) (player_seen result) }
 {
-    let PlayerRead::Got { player, next: end } = player_at(s, at) else {
-        return PlayerRead::Nothing;
-    };
-    let Next::At(next) = byte_at(s, end, b'\n') else {
-        return PlayerRead::Nothing;
-    };
-    PlayerRead::Got { player, next }
+    let (player, feed) = player_at(s)?;
+    let rest = byte_at(feed, b'\n')?;
+    Some((player, rest))
 }
 
-// What line 1 says, and where it ends.
+// What line 1 says.
 #[derive(Clone, Copy)]
-pub enum HeaderRead {
-    Got {
-        board: Board,
-        player: Player,
-        end: usize,
-    },
-    Nothing,
+pub struct Header {
+    pub board: Board,
+    pub player: Player,
 }
 
 // Line 1: `hex`, columns, rows, `D` or `A`.
-pub fn header_line(s: &[u8]) -> HeaderRead
-    ensures { Reads s.now 0 L.header_line (header_seen result) }
+pub fn header_line(s: &[u8]) -> Option<(Header, &[u8])>
+    ensures { Reads s.now L.header_line (header_seen result) }
 {
-    let Next::At(sizes) = word_at(s, 0, b'h', b'e', b'x') else {
-        return HeaderRead::Nothing;
-    };
-    let BoardRead::Got { board, next: tab } = board_at(s, sizes) else {
-        return HeaderRead::Nothing;
-    };
-    let Next::At(letter) = byte_at(s, tab, b'\t') else {
-        return HeaderRead::Nothing;
-    };
-    let PlayerRead::Got { player, next: end } = player_end(s, letter) else {
-        return HeaderRead::Nothing;
-    };
-    HeaderRead::Got { board, player, end }
+    let sizes = hex_at(s)?;
+    let (board, tab) = board_at(sizes)?;
+    let letter = byte_at(tab, b'\t')?;
+    let (player, rest) = player_end(letter)?;
+    Some((Header { board, player }, rest))
 }

@@ -3,9 +3,9 @@ ghost use Rattle.rules.specs.Sizes.{most_under};
 ghost use Rattle.rules.specs.Text.{number_in};
 ghost use Rattle.rules.specs.Lines as L;
 ghost use Rattle.lines.specs.Parts as parts;
-ghost use Rattle.lines.specs.Seen.{Reads, next_seen, number_seen, place_seen, cell_seen, line_seen};
+ghost use Rattle.lines.specs.Seen.{Reads, skipped, number_seen, place_seen, name_seen, line_seen};
 
-use crate::numbers::{Next, NumberRead, byte_at, number_in};
+use crate::numbers::{byte_at, number_in};
 use rules::LineKind;
 
 // The highest row that a cell's name may have.
@@ -14,170 +14,99 @@ const HIGHEST_ROW: u32 = 99;
 const MOST_UNDER: u32 = 2047;
 
 // The column of a lower-case letter.
-fn letter_at(s: &[u8], at: usize) -> NumberRead
-    ensures { Reads s.now at L.letter (number_seen result) }
+#[tactic(auto, unfolding(rules::specs::Text::bind, rules::specs::Text::guard, rules::specs::Text::give, rules::specs::Text::any_byte, rules::specs::Lines::letter))]
+fn letter_at(s: &[u8]) -> Option<(u32, &[u8])>
+    ensures { Reads s.now L.letter (number_seen result) }
 {
-    if s.len() <= at {
-        return NumberRead::Nothing;
+    let (&letter, rest) = s.split_first()?;
+    if !letter.is_ascii_lowercase() {
+        return None;
     }
-    let letter = s[at];
-    if letter < b'a' {
-        return NumberRead::Nothing;
-    }
-    if b'z' < letter {
-        return NumberRead::Nothing;
-    }
-    NumberRead::Got {
-        value: letter as u32 - 96,
-        next: at + 1,
-    }
+    Some((letter as u32 - 96, rest))
 }
 
-// A cell's column and row, and where the text goes on after it.
+// A cell's column and row.
 #[derive(Clone, Copy)]
-pub enum PlaceRead {
-    Got { column: u32, row: u32, next: usize },
-    Nothing,
+pub struct Place {
+    pub column: u32,
+    pub row: u32,
 }
 
 // A cell is a lower-case letter and a number 1 to 99.
-pub fn place_at(s: &[u8], at: usize) -> PlaceRead
-    ensures { Reads s.now at L.place (place_seen result) }
+pub fn place_at(s: &[u8]) -> Option<(Place, &[u8])>
+    ensures { Reads s.now L.place (place_seen result) }
 {
-    let NumberRead::Got {
-        value: column,
-        next: middle,
-    } = letter_at(s, at)
-    else {
-        return PlaceRead::Nothing;
-    };
-    let NumberRead::Got { value: row, next } = number_in(s, middle, 1, HIGHEST_ROW) else {
-        return PlaceRead::Nothing;
-    };
-    PlaceRead::Got { column, row, next }
+    let (column, middle) = letter_at(s)?;
+    let (row, rest) = number_in(middle, 1, HIGHEST_ROW)?;
+    Some((Place { column, row }, rest))
 }
 
-// The cell that a line names by its column and row, if it names one.
-#[derive(Clone, Copy)]
-pub enum Cell {
-    At { column: u32, row: u32 },
-    Unnamed,
-}
-
-// What stands for a cell, and where the text goes on after it.
-#[derive(Clone, Copy)]
-enum CellRead {
-    Got { cell: Cell, next: usize },
-    Nothing,
-}
-
-// A cell; or `-`, where that may stand instead.
-fn name_at(s: &[u8], at: usize, dash: bool) -> CellRead
-    ensures { Reads s.now at (parts.name dash) (cell_seen result) }
+// A cell; or `-`, where that may stand instead. (One function for the first node and the others: they differ by this alone.)
+fn name_at(s: &[u8], dash: bool) -> Option<(Option<Place>, &[u8])>
+    ensures { Reads s.now (parts.name dash) (name_seen result) }
 {
-    if let PlaceRead::Got { column, row, next } = place_at(s, at) {
-        return CellRead::Got {
-            cell: Cell::At { column, row },
-            next,
-        };
+    if let Some((place, rest)) = place_at(s) {
+        return Some((Some(place), rest));
     }
     if !dash {
-        return CellRead::Nothing;
+        return None;
     }
-    let Next::At(next) = byte_at(s, at, b'-') else {
-        return CellRead::Nothing;
-    };
-    CellRead::Got {
-        cell: Cell::Unnamed,
-        next,
-    }
+    let rest = byte_at(s, b'-')?;
+    Some((None, rest))
 }
 
 // A line's first letter and the tab after it.
-fn begun_at(s: &[u8], at: usize, letter: u8) -> Next
-    ensures { Reads s.now at (parts.begun letter) (next_seen result) }
+fn begun_at(s: &[u8], letter: u8) -> Option<&[u8]>
+    ensures { Reads s.now (parts.begun letter) (skipped result) }
 {
-    let Next::At(middle) = byte_at(s, at, letter) else {
-        return Next::Nothing;
-    };
-    byte_at(s, middle, b'\t')
+    let tab = byte_at(s, letter)?;
+    byte_at(tab, b'\t')
 }
 
 // The number of nodes under a node, at least lo, and the line's end.
-fn under_at(s: &[u8], at: usize, lo: u32) -> NumberRead
-    ensures { Reads s.now at (parts.closed (number_in lo most_under)) (number_seen result) }
+fn under_at(s: &[u8], lo: u32) -> Option<(u32, &[u8])>
+    ensures { Reads s.now (parts.closed (number_in lo most_under)) (number_seen result) }
 {
-    let NumberRead::Got { value, next: feed } = number_in(s, at, lo, MOST_UNDER) else {
-        return NumberRead::Nothing;
-    };
-    let Next::At(next) = byte_at(s, feed, b'\n') else {
-        return NumberRead::Nothing;
-    };
-    NumberRead::Got { value, next }
+    let (under, feed) = number_in(s, lo, MOST_UNDER)?;
+    let rest = byte_at(feed, b'\n')?;
+    Some((under, rest))
 }
 
 // What a node's line says: the cell that it names, if any, and the number of nodes right under it.
 #[derive(Clone, Copy)]
 pub struct Line {
-    pub cell: Cell,
+    pub place: Option<Place>,
     pub under: u32,
 }
 
-// A node's line, and where the next line begins.
-#[derive(Clone, Copy)]
-pub enum LineRead {
-    Got { line: Line, next: usize },
-    Nothing,
-}
-
-// A move's line: `m`, cell, number of waits under it. Where dash is true, `-` may stand instead of the cell.
-fn cell_line(s: &[u8], at: usize, dash: bool) -> LineRead
-    ensures { Reads s.now at (parts.cell_line dash) (line_seen result) }
+// A move's line: `m`, cell, number of waits under it. Where dash is true, `-` may stand instead of the cell, for the first node alone. (One
+// function, as `name_at`.)
+fn cell_line(s: &[u8], dash: bool) -> Option<(Line, &[u8])>
+    ensures { Reads s.now (parts.cell_line dash) (line_seen result) }
 {
-    let Next::At(name) = begun_at(s, at, b'm') else {
-        return LineRead::Nothing;
-    };
-    let CellRead::Got { cell, next: tab } = name_at(s, name, dash) else {
-        return LineRead::Nothing;
-    };
-    let Next::At(number) = byte_at(s, tab, b'\t') else {
-        return LineRead::Nothing;
-    };
-    let NumberRead::Got { value: under, next } = under_at(s, number, 0) else {
-        return LineRead::Nothing;
-    };
-    LineRead::Got {
-        line: Line { cell, under },
-        next,
-    }
+    let name = begun_at(s, b'm')?;
+    let (place, tab) = name_at(name, dash)?;
+    let number = byte_at(tab, b'\t')?;
+    let (under, rest) = under_at(number, 0)?;
+    Some((Line { place, under }, rest))
 }
 
 // A wait's line: `w`, number of moves under it.
-fn wait_line(s: &[u8], at: usize) -> LineRead
-    ensures { Reads s.now at L.wait_line (line_seen result) }
+fn wait_line(s: &[u8]) -> Option<(Line, &[u8])>
+    ensures { Reads s.now L.wait_line (line_seen result) }
 {
-    let Next::At(number) = begun_at(s, at, b'w') else {
-        return LineRead::Nothing;
-    };
-    let NumberRead::Got { value: under, next } = under_at(s, number, 1) else {
-        return LineRead::Nothing;
-    };
-    LineRead::Got {
-        line: Line {
-            cell: Cell::Unnamed,
-            under,
-        },
-        next,
-    }
+    let number = begun_at(s, b'w')?;
+    let (under, rest) = under_at(number, 1)?;
+    Some((Line { place: None, under }, rest))
 }
 
 // The line of a node of the kind: only the first node may have `-` instead of a cell.
-pub fn node_line(s: &[u8], at: usize, kind: LineKind) -> LineRead
-    ensures { Reads s.now at (L.reader_of kind) (line_seen result) }
+pub fn node_line(s: &[u8], kind: LineKind) -> Option<(Line, &[u8])>
+    ensures { Reads s.now (L.reader_of kind) (line_seen result) }
 {
     match kind {
-        LineKind::First => cell_line(s, at, true),
-        LineKind::Move => cell_line(s, at, false),
-        LineKind::Wait => wait_line(s, at),
+        LineKind::First => cell_line(s, true),
+        LineKind::Move => cell_line(s, false),
+        LineKind::Wait => wait_line(s),
     }
 }

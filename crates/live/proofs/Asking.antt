@@ -1,6 +1,6 @@
 -- A loop over the moves of a wait that looks at each: what was told of those before, and what is left. For any statement of these.
 use mathlib.Core.Path.{◌≡◌, refl, sym, ap, ◌∙◌, subst}
-use mathlib.Core.Bool.{true, ◌&&◌, and-true, true≢false}
+use mathlib.Core.Bool.{Bool, ◌&&◌, and-true}
 use mathlib.Core.Logic.{◌⊎◌, ⊎_elim}
 use mathlib.Core.List.{List}
 use mathlib.Core.Option.{none}
@@ -14,8 +14,9 @@ use Rattle.rules.proofs.Live.{in_all_before}
 use Rattle.nodes.specs.Nodes.{Nodes, node, Kind, a_wait, a_move, many, nodes_of_waits, nodes_of_moves, size}
 use Rattle.nodes.specs.Table.{Property, WeighedOn, At}
 use Rattle.nodes.proofs.Walk.{Walking}
-use Rattle.live.specs.Looking.{CommonIs, NoneBefore, ToldAny}
+use Rattle.live.specs.Looking.{CommonIs, no_move, ToldAny}
 use Rattle.live.specs.declared.Common.{Common}
+use Rattle.live.specs.declared.Common.TheVariants.{NoMove, Spent}
 use Rattle.live.proofs.Sharing.{spent_all, spent_none}
 
 -- a statement of all moves of a wait, the cells common to those before, and those that are left
@@ -34,8 +35,8 @@ pub record MovesLeft (b : Board) (z : Common) (R : Statement) (all : Moves) (res
 pub record Asked (b : Board) (z : Common) (R : Statement) (all rest : Nodes) : Type 0 where
   pub of : (ms : Moves) → all ≡ nodes_of_moves ms → MovesLeft b z R ms rest
 
-pub asked_all : (b : Board) (z : Common) (R : Statement) → NoneBefore z → ((ms : Moves) → R ms none ms) → (u : Nodes) → Asked b z R u u
-asked_all b z R n f u = record { of = λ ms e. record { before = none; moves = ms; are = e; common = n; holds = f ms } }
+pub asked_all : (b : Board) (R : Statement) → ((ms : Moves) → R ms none ms) → (u : Nodes) → Asked b NoMove R u u
+asked_all b R f u = record { of = λ ms e. record { before = none; moves = ms; are = e; common = no_move; holds = f ms } }
 
 -- the first of moves that are nodes
 record FirstMove (c : ℕ) (v a : Nodes) (ms : Moves) : Type 0 where
@@ -54,12 +55,12 @@ first_of c v a (move line d ws ms) e =
     record { line = line; waits = ws; others = ms; is = ap (λ x. move line x ws ms) (sym own); under = cc; after = cc }
 
 -- one more is looked at
-pub asked_again : {b : Board} {t : List ℕ} {z z' : Common} {next : ℕ} (R R' : Statement) → ToldAny b t next z z'
+pub asked_again : {b : Board} {t : List ℕ} {z z' : Common} {live : Bool} {next : ℕ} (R R' : Statement) → ToldAny b t next z z' live
     → (c : ℕ) (v : Nodes) → At (WeighedOn b t) a_move next c v
     → ((ms : Moves) (before : Shared) (line : ℕ) (ws : Waits) (others : Moves) → At (WeighedOn b t) a_move next c (nodes_of_waits ws)
-    → z'.live ≡ is_live before c ws → R ms before (move line c ws others) → R' ms (and_this before c ws) others)
+    → live ≡ is_live before c ws → R ms before (move line c ws others) → R' ms (and_this before c ws) others)
     → (u a : Nodes) → Asked b z R u (node c v a) → Asked b z' R' u a
-asked_again {b} {t} {z} {z'} {next} R R' tells c v m step u a f = record { of = one }
+asked_again {b} {t} {z} {z'} {live} {next} R R' tells c v m step u a f = record { of = one }
   where
     one : (ms : Moves) → u ≡ nodes_of_moves ms → MovesLeft b z' R' ms a
     one ms e =
@@ -77,7 +78,7 @@ asked_again {b} {t} {z} {z'} {next} R R' tells c v m step u a f = record { of = 
 
 -- No move is left, or none that is left is live
 abbrev pub Stops : (z : Common) → (under j : ℕ) → Type 0
-Stops z under j = (under ≤ j) ⊎ (z.spent ≡ true)
+Stops z under j = (under ≤ j) ⊎ (z ≡ Spent)
 
 -- none of these is live, and no cell but those common to the moves before is in every move
 pub record Over (before : Shared) (ms : Moves) : Type 0 where
@@ -99,15 +100,18 @@ unfolding living_after idle_under nodes_of_moves many in_every
 no_more before no_moves e = record { none_live = refl; all_idle = refl; none_before = λ q. refl; in_all = λ x. and-true (in_all_before before x) }
 no_more before (move line c ws ms) e = absurd (omega arith)
 
-none_more : (b : Board) (z : Common) → z.spent ≡ true → (before : Shared) → CommonIs b z before → (ms : Moves) → Over before ms
-none_more b z e before h ms =
-    let d = spent_all b z e before h ms in
+none_more : {b : Board} (before : Shared) → CommonIs b Spent before → (ms : Moves) → Over before ms
+none_more before h ms =
+    let d = spent_all before h ms in
     record {
       none_live = d.0;
       all_idle = d.1;
-      none_before = λ q. absurd (true≢false (sym e ∙ (subst (CommonIs b z) q h).none_spent));
-      in_all = λ x. let gone = spent_none b z e before h x in ap (λ y. y && in_every ms x) gone ∙ sym gone;
+      none_before = λ q. absurd (some_move (subst (CommonIs _ Spent) q h));
+      in_all = λ x. let gone = spent_none before h x in ap (λ y. y && in_every ms x) gone ∙ sym gone;
     }
+  where
+    some_move : {b : Board} → CommonIs b Spent none → ⊥
+    some_move h = elim h [ ]
 
 module _ {P : Property} {b : Board} {t : List ℕ} {i under next j : ℕ} {z : Common} {R : Statement} (w : Walking P (WeighedOn b t) a_wait i under next j (Asked b z R)) (stop : Stops z under j) where
   pub asked_stop : (ms : Moves) → At P a_wait i 0 (nodes_of_moves ms) → Stopped b z R ms (under - j)
@@ -116,7 +120,7 @@ module _ {P : Property} {b : Board} {t : List ℕ} {i under next j : ℕ} {z : C
       let k = l.holds.of ms refl in
       let same : many (nodes_of_moves k.moves) ≡ under - j = ap many (sym k.are) ∙ l.many_left in
       let d : Over k.before k.moves =
-      ⊎_elim (λ p. no_more k.before k.moves (omega (arith, same))) (λ e. none_more b z e k.before k.common k.moves) stop in
+      ⊎_elim (λ p. no_more k.before k.moves (omega (arith, same))) (λ e. none_more k.before (subst (λ y. CommonIs b y k.before) e k.common) k.moves) stop in
       record { before = k.before; moves = k.moves; common = k.common; holds = k.holds; over = d; many_left = same }
 
 -- it is no further than the wait goes

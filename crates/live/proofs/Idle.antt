@@ -22,70 +22,77 @@ use Rattle.nodes.specs.Table.{under_in, end_in, is_move_at, WeighedOn, SomeNode}
 use Rattle.nodes.specs.Order.{TreeNode, is_move, is_wait, waits_among}
 use Rattle.nodes.proofs.Order.{waits_of_waits_lem}
 use Rattle.nodes.proofs.Walk.{Walking, walking_starts, walking_again}
-use Rattle.fair.specs.Faults.{at_waits, WaitAt}
+use Rattle.fair.specs.Faults.{at_waits, WaitAt, IsFault}
 use Rattle.fair.proofs.WhichKind.{of_move, of_wait, none_move}
 use Rattle.fair.proofs.Laid.{tree_of}
 use Rattle.fair.proofs.Adding.{Sum}
-use Rattle.live.specs.Looking.{NoneBefore, CommonIs, ToldAny, LeastAny, Told, LookedAny, LookedAt, idle_in}
+use Rattle.std.specs.Prelude as code
+use Rattle.fair.specs.declared.Fault.{Fault}
+use Rattle.live.specs.Looking.{CommonIs, ToldAny, LeastAny, LookedAny, LookedAt, idle_in}
 use Rattle.live.specs.declared.Common.{Common}
-use Rattle.live.specs.declared.Looked.{Looked}
+use Rattle.live.specs.declared.Common.TheVariants.{NoMove}
 use Rattle.live.proofs.Asking.{Asked, asked_all, asked_again, Stops, asked_stop}
 
 -- ---- of a wait
 
--- so many of those before aren't live, and the cells that are in every move are those common to them that are in every one that is left
-pub record SoFar (idle : ℕ) (ms : Moves) (before : Shared) (rest : Moves) : Type 0 where
-  pub so_many : idle + idle_under before rest ≡ idle_under none ms
+-- so many of those before are live, and the cells that are in every move are those common to them that are in every one that is left
+pub record SoFar (passed live : ℕ) (ms : Moves) (before : Shared) (rest : Moves) : Type 0 where
+  pub so_many : passed + idle_under before rest ≡ live + idle_under none ms
   pub in_every_lem : (x : ℕ) → in_every ms x ≡ (in_all_before before x && in_every rest x)
   pub all_left : before ≡ none → rest ≡ ms
 
 -- one more, or none
-pub idle_more : (n : ℕ) (live : Bool) → not live ≡ true → n + 1 ≡ n + one_if (not live)
+pub one_live : (n : ℕ) (live : Bool) → live ≡ true → n + 1 ≡ n + one_if live
 unfolding one_if
-idle_more n live e = rw e refl
+one_live n live e = rw e refl
 
-pub idle_same : (n : ℕ) (live : Bool) → not live ≡ false → n ≡ n + one_if (not live)
+pub none_live : (n : ℕ) (live : Bool) → live ≡ false → n ≡ n + one_if live
 unfolding one_if
-idle_same n live e = rw e (sym (add-zero n))
+none_live n live e = rw e (sym (add-zero n))
+
+one_or_other : (y : Bool) → one_if y + one_if (not y) ≡ 1
+unfolding one_if
+one_or_other true = refl
+one_or_other false = refl
 
 never_none : (before : Shared) (c : ℕ) (ws : Waits) → and_this before c ws ≡ none → ⊥
 unfolding and_this
 never_none none c ws e = none≢some (sym e)
 never_none (some xs) c ws e = none≢some (sym e)
 
-pub record Counting (b : Board) (t : List ℕ) (i under next j : ℕ) (z : Common) (idle : ℕ) : Type 0 where
-  pub walk : Walking (WeighedOn b t) (WeighedOn b t) a_wait i under next j (Asked b z (SoFar idle))
-  pub few : idle ≤ j
+pub record Counting (b : Board) (t : List ℕ) (i under next j : ℕ) (z : Common) (live : ℕ) : Type 0 where
+  pub walk : Walking (WeighedOn b t) (WeighedOn b t) a_wait i under next j (Asked b z (SoFar j live))
+  pub few : live ≤ j
 
-pub counting_starts : (b : Board) (t : List ℕ) (i under : ℕ) (z : Common) → under ≡ under_in t i → NoneBefore z → Counting b t i under (i + 1) 0 z 0
-counting_starts b t i under z e n =
+pub counting_starts : {b : Board} {t : List ℕ} {i under : ℕ} → under ≡ under_in t i → Counting b t i under (i + 1) 0 NoMove 0
+counting_starts {b} e =
     record {
       walk =
           walking_starts (λ c u r. omega (arith, r.weight.row.under))
-          (asked_all b z (SoFar 0) n (λ ms. record { so_many = omega arith; in_every_lem = λ x. refl; all_left = λ q. refl }));
+          (asked_all b (SoFar 0 0) (λ ms. record { so_many = refl; in_every_lem = λ x. refl; all_left = λ q. refl }));
       few = omega arith;
     }
 
-module _ {b : Board} {t : List ℕ} {i under next j : ℕ} {z : Common} {idle : ℕ} (w : Counting b t i under next j z idle) where
+module _ {b : Board} {t : List ℕ} {i under next j : ℕ} {z : Common} {live : ℕ} (w : Counting b t i under next j z live) where
   -- one more is looked at
-  pub counting_again : j < under → SomeNode (WeighedOn b t) a_wait i → {next' : ℕ} {z' : Common} (idle' : ℕ) → ToldAny b t next z z' → next' ≡ end_in t next → idle' ≡ idle + one_if (not z'.live)
-      → Counting b t i under next' (j + 1) z' idle'
-  counting_again p n {next'} {z'} idle' tells end e =
+  pub counting_again : j < under → SomeNode (WeighedOn b t) a_wait i → {next' : ℕ} {z' : Common} {is : Bool} (live' : ℕ) → ToldAny b t next z z' is → next' ≡ end_in t next → live' ≡ live + one_if is
+      → Counting b t i under next' (j + 1) z' live'
+  counting_again p n {next'} {z'} {is} live' tells end e =
       record {
         walk = walking_again w.walk p n (λ c v m.
             record {
               next_is = end ∙ m.here.weight.end;
               each = λ a s. s;
-              holds = asked_again (SoFar idle) (SoFar idle') tells c v m (λ ms before line ws others at is h. one_more ms before line ws others is h);
+              holds = asked_again (SoFar j live) (SoFar (j + 1) live') tells c v m (λ ms before line ws others at told h. one_more ms before line ws others told h);
             });
-        few = omega (arith, w.few, e, one_at_most (not z'.live));
+        few = omega (arith, w.few, e, one_at_most is);
       }
     where
-      one_more : {c : ℕ} (ms : Moves) (before : Shared) (line : ℕ) (ws : Waits) (others : Moves) → z'.live ≡ is_live before c ws
-          → SoFar idle ms before (move line c ws others) → SoFar idle' ms (and_this before c ws) others
-      one_more {c} ms before line ws others is h =
+      one_more : {c : ℕ} (ms : Moves) (before : Shared) (line : ℕ) (ws : Waits) (others : Moves) → is ≡ is_live before c ws
+          → SoFar j live ms before (move line c ws others) → SoFar (j + 1) live' ms (and_this before c ws) others
+      one_more {c} ms before line ws others told h =
           record {
-            so_many = unfold idle_under in omega (arith, e, h.so_many, ap (λ y. one_if (not y)) is);
+            so_many = unfold idle_under in omega (arith, e, h.so_many, ap (λ y. one_if (not y)) told, one_or_other is);
             in_every_lem = λ x.
                 unfold in_every in
                 h.in_every_lem x
@@ -95,13 +102,13 @@ module _ {b : Board} {t : List ℕ} {i under next j : ℕ} {z : Common} {idle : 
           }
 
   -- none is left, or none that is left is live
-  pub counting_done : Stops z under j → {cell : ℕ} → LeastAny b z cell → (v : Wait) → WaitAt b t i v → v.moves ≢ no_moves → Told b v (record { cell = cell; idle = idle + (under - j) })
+  pub counting_done : Stops z under j → {cell : ℕ} → LeastAny b z cell → (v : Wait) → WaitAt b t i v → v.moves ≢ no_moves
+      → (cell ≡ smallest b (not_elusive v)) × (under - live ≡ idle_at v)
   counting_done p {cell} least v a some_move =
-      let d = asked_stop w.walk p v.moves a in
-      record {
-        cell_is = smallest_of d.before d.common (λ x. d.holds.in_every_lem x ∙ d.over.in_all x) (λ q. some_move (sym (d.holds.all_left q) ∙ d.over.none_before q));
-        idle_is = omega (arith, d.holds.so_many, d.over.all_idle, d.many_left);
-      }
+      let d = asked_stop w.walk p v.moves a in (
+        smallest_of d.before d.common (λ x. d.holds.in_every_lem x ∙ d.over.in_all x) (λ q. some_move (sym (d.holds.all_left q) ∙ d.over.none_before q)),
+        omega (arith, d.holds.so_many, d.over.all_idle, d.many_left, w.walk.turns, w.few),
+      )
     where
       smallest_of : (before : Shared) → CommonIs b z before → ((x : ℕ) → in_every v.moves x ≡ in_all_before before x) → (before ≢ none) → cell ≡ smallest b (not_elusive v)
       smallest_of none h every some-before = absurd (some-before refl)
@@ -111,16 +118,16 @@ module _ {b : Board} {t : List ℕ} {i under next j : ℕ} {z : Common} {idle : 
 
 module _ {b : Board} {t : List ℕ} {i : ℕ} where
   -- a move tells nothing
-  pub move_told : is_move_at t i ≡ true → LookedAt b t i (record { cell = 0; idle = 0 })
-  move_told e = record { least = none_move not_elusive e; idle_is = of_move e (λ n. 0 ≡ idle_in n) (λ m a. refl) }
+  pub move_told : is_move_at t i ≡ true → LookedAt b t i (code.Ok 0)
+  move_told e = (none_move not_elusive e, of_move e (λ n. 0 ≡ idle_in n) (λ m a. refl))
 
   -- a wait what its moves tell
-  pub wait_told : {r : Looked} → is_move_at t i ≡ false → LookedAny b t i r → LookedAt b t i r
-  wait_told {r} e h =
-      record {
-        least = of_wait e (λ n. r.cell ≡ smallest b (at_waits not_elusive n)) (λ w a g. (h w a g).cell_is);
-        idle_is = of_wait e (λ n. r.idle ≡ idle_in n) (λ w a g. (h w a g).idle_is);
-      }
+  pub wait_told : (r : code.Result ℕ Fault) → is_move_at t i ≡ false → LookedAny b t i r → LookedAt b t i r
+  wait_told (code.Err f) e h = of_wait e (λ n. IsFault i (smallest b (at_waits not_elusive n)) (code.Some f)) h
+  wait_told (code.Ok idle) e h = (
+    of_wait e (λ n. smallest b (at_waits not_elusive n) ≡ 0) (λ w a g. (h w a g).0),
+    of_wait e (λ n. idle ≡ idle_in n) (λ w a g. (h w a g).1),
+  )
 
 -- ---- of a sheet
 

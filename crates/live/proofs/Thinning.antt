@@ -1,6 +1,6 @@
 -- The loops over the waits of a move, and over the moves of a wait, that leave out the moves that aren't live.
 use mathlib.Core.Path.{◌≡◌, refl, sym, ap, subst, subst⁻¹, ◌∙◌}
-use mathlib.Core.Bool.{true, false, not}
+use mathlib.Core.Bool.{Bool, true, false, not}
 use mathlib.Core.List.{List}
 use mathlib.Core.Option.{none}
 use Prim.Native.Nat.{ℕ, suc, ◌+◌, ◌-◌, ◌*◌, ◌<◌, ◌≤◌}
@@ -15,9 +15,10 @@ use Rattle.nodes.specs.Nodes.{Nodes, no_nodes, node, Kind, a_wait, a_move, many,
 use Rattle.nodes.specs.Table.{cell_in, under_in, end_in, with_node, Each, nothing, first, Stand, WeighedOn, At, SomeNode}
 use Rattle.nodes.proofs.Table.{each_map, at_map, Agree, agree_within, agree_then, row_agree, weighed_row_agree, stand_agree, stored_row, stored, node_end}
 use Rattle.nodes.proofs.Walk.{Walking, walking_starts, walking_again, walking_ends}
-use Rattle.live.specs.Looking.{NoneBefore, ToldAny}
+use Rattle.live.specs.Looking.{ToldAny}
 use Rattle.live.specs.Thinning.{Within, MovedUp, StandsTo, MoveThinnedAny, WaitThinnedAny}
 use Rattle.live.specs.declared.Common.{Common}
+use Rattle.live.specs.declared.Common.TheVariants.{NoMove}
 use Rattle.live.proofs.Asking.{Asked, asked_all, asked_again, Stops, Stopped, asked_stop, walk_within}
 
 no_nodes_lem : {ms : Moves} → ms ≡ no_moves → nodes_of_moves ms ≡ no_nodes
@@ -244,23 +245,22 @@ pub record MovesGoing (b : Board) (t₀ t : List ℕ) (from to under next out j 
   pub going : Going t₀ t to next out
   pub few : kept ≤ j
 
-pub moves_starts : (b : Board) (t : List ℕ) (from to under : ℕ) (z : Common) → under ≡ under_in t from → to ≤ from → NoneBefore z
-    → MovesGoing b t t from to under (from + 1) (to + 1) 0 z 0
-moves_starts b t from to under z e p n =
+pub moves_starts : (b : Board) (t : List ℕ) (from to under : ℕ) → under ≡ under_in t from → to ≤ from → MovesGoing b t t from to under (from + 1) (to + 1) 0 NoMove 0
+moves_starts b t from to under e p =
     record {
       walk = walking_starts (λ c u r. omega (arith, r.weight.row.under))
-          (asked_all b z (Kept t to (to + 1) 0) n (λ ms. record { built = built_none t a_move to (nodes_of_moves (living_after none ms)); many_kept = omega arith }));
+          (asked_all b (Kept t to (to + 1) 0) (λ ms. record { built = built_none t a_move to (nodes_of_moves (living_after none ms)); many_kept = omega arith }));
       going = going_starts t from to p;
       few = omega arith;
     }
 
 module _ {b : Board} {t₀ t : List ℕ} {from to under next out j : ℕ} {z : Common} {kept : ℕ} (w : MovesGoing b t₀ t from to under next out j z kept) where
-  module _ (p : j < under) (n : SomeNode (WeighedOn b t) a_move next) (s : SomeNode (WeighedOn b t₀) a_wait from) {next' : ℕ} {z' : Common} (tells : ToldAny b t next z z') (end : next' ≡ end_in t next) where
+  module _ (p : j < under) (n : SomeNode (WeighedOn b t) a_move next) (s : SomeNode (WeighedOn b t₀) a_wait from) {next' : ℕ} {z' : Common} {live : Bool} (tells : ToldAny b t next z z' live) (end : next' ≡ end_in t next) where
     further : next ≤ next'
     further = omega (arith, end, n.at.here.weight.end)
 
     -- one more is live, and was thinned
-    pub moves_live : z'.live ≡ true → {out' kept' : ℕ} {v : List ℕ} → MoveThinnedAny b t next out out' v → kept' ≡ kept + 1
+    pub moves_live : live ≡ true → {out' kept' : ℕ} {v : List ℕ} → MoveThinnedAny b t next out out' v → kept' ≡ kept + 1
         → MovesGoing b t₀ v from to under next' out' (j + 1) z' kept'
     unfolding many
     moves_live e {out'} {kept'} {v} h k =
@@ -275,7 +275,7 @@ module _ {b : Board} {t₀ t : List ℕ} {from to under next out j : ℕ} {z : C
           few = omega (arith, w.few);
         }
       where
-        step : {c : ℕ} (ms : Moves) (before : Shared) (line : ℕ) (ws : Waits) (others : Moves) → At (WeighedOn b t) a_move next c (nodes_of_waits ws) → z'.live ≡ is_live before c ws
+        step : {c : ℕ} (ms : Moves) (before : Shared) (line : ℕ) (ws : Waits) (others : Moves) → At (WeighedOn b t) a_move next c (nodes_of_waits ws) → live ≡ is_live before c ws
             → Kept t to out kept ms before (move line c ws others) → Kept v to out' kept' ms (and_this before c ws) others
         step {c} ms before line ws others at is f =
             let q = nodes_live before line c ws others (holds_of (sym is ∙ e)) in
@@ -285,7 +285,7 @@ module _ {b : Board} {t₀ t : List ℕ} {from to under next out j : ℕ} {z : C
             }
 
     -- or isn't, and is left out
-    pub moves_idle : z'.live ≡ false → MovesGoing b t₀ t from to under next' out (j + 1) z' kept
+    pub moves_idle : live ≡ false → MovesGoing b t₀ t from to under next' out (j + 1) z' kept
     moves_idle e =
         record {
           walk = walking_again w.walk p s (λ c u m.
@@ -298,7 +298,7 @@ module _ {b : Board} {t₀ t : List ℕ} {from to under next out j : ℕ} {z : C
           few = omega (arith, w.few);
         }
       where
-        step : {c : ℕ} (ms : Moves) (before : Shared) (line : ℕ) (ws : Waits) (others : Moves) → At (WeighedOn b t) a_move next c (nodes_of_waits ws) → z'.live ≡ is_live before c ws
+        step : {c : ℕ} (ms : Moves) (before : Shared) (line : ℕ) (ws : Waits) (others : Moves) → At (WeighedOn b t) a_move next c (nodes_of_waits ws) → live ≡ is_live before c ws
             → Kept t to out kept ms before (move line c ws others) → Kept t to out kept ms (and_this before c ws) others
         step {c} ms before line ws others at is f =
             let q = nodes_idle before line c ws others (subst (λ y. T (not y)) (sym e ∙ is) tt) in

@@ -3,187 +3,138 @@
 
 #![tactic(auto)]
 
-ghost use Rattle.std.specs.Prelude.{◌≡◌, ◌≤◌, length};
+ghost use Rattle.std.specs.Prelude.{◌≡◌, ◌^◌, ◌<◌, ◌≤◌, length};
 ghost use Rattle.rules.specs.Sizes.{least_workspace};
 ghost use Rattle.rules.specs.Tree.{Sheet};
 ghost use Rattle.rules.specs.Live.{idle_count};
-ghost use Rattle.cells.specs.Cells.{Fits};
 ghost use Rattle.nodes.specs.Nodes.{a_wait, a_move};
 ghost use Rattle.nodes.specs.Table.{WeighedOn, SomeNode};
 ghost use Rattle.nodes.specs.Sheets.{HoldsSheet, HoldsLiving, SomeSheet};
 ghost use Rattle.fair.specs.Faults.{SomeTreeNode};
-ghost use Rattle.live.specs.Looking.{NoneBefore, ToldAny, LeastAny, LookedAny, LookedAt, ElusiveFound};
+ghost use Rattle.live.specs.Looking.{ToldAny, LeastAny, LookedAny, LookedAt, ElusiveFound};
 ghost use Rattle.live.specs.Thinning.{MoveThinnedAny, WaitThinnedAny, SomeIdle, KeepsLive};
 
-use cells::Cells;
+use cells::{Cells, Grid};
+use fair::Fault;
 use nodes::{cell_at, cells_at, end_at, is_move, set_node, under_at, weigh_move};
-use rules::Board;
 
-// What 11 finds: the first wait that is not elusive, and its smallest faulty cell; or that all are, and how many moves aren't live.
+// The cells common to all moves so far of a wait.
 #[derive(Clone, Copy)]
-pub enum Elusive {
-    Not { node: usize, cell: u32 },
-    All { idle: usize },
-}
-
-// The cells common to all moves so far of a wait: whether the last of these is live, whether there was one, and, once it is known, that no
-// cell is left.
-#[derive(Clone, Copy)]
-struct Common {
-    live: bool,
-    some: bool,
-    spent: bool,
-    cells: Cells,
+enum Common {
+    // There was no move so far.
+    NoMove,
+    // These are in each.
+    Left(Cells),
+    // No cell is.
+    Spent,
 }
 
 impl Common {
-    // No move so far.
-    fn none() -> Self
-        ensures { NoneBefore result }
-    {
-        Common {
-            live: false,
-            some: false,
-            spent: false,
-            cells: Cells::empty(),
-        }
-    }
-
-    // With the move at node i: it is live if it is the first, or if some common cell isn't in it; if it isn't, it has all of them.
-    fn and_this(self, t: &[u32], board: Board, i: usize) -> Self
-        requires fits { Fits board }
-        requires stands { SomeNode (WeighedOn board t.now) a_move i }
+    // Takes in the move at node i, and tells whether it is live: it is if it is the first, or if some common cell isn't in it.
+    fn and_this(&mut self, t: &[u32], grid: Grid, i: usize) -> bool
+        requires stands { SomeNode (WeighedOn grid.board t.now) a_move i }
         requires below { 1 ≤ i }
-        ensures { ToldAny board t.now i self result }
+        ensures { ToldAny grid.board t.now i self.old self.new result }
     {
-        let cells = self.cells;
-        let own = cells_at(t, board, i);
-        if !self.some {
-            return Common {
-                live: true,
-                some: true,
-                spent: false,
-                cells: own,
-            };
-        }
-        if !cells.exceeds(board, own) {
-            return Common {
-                live: false,
-                some: true,
-                spent: self.spent,
-                cells,
-            };
+        let own = cells_at(t, grid, i);
+        let cells = match *self {
+            Common::NoMove => {
+                *self = Common::Left(own);
+                return true;
+            }
+            Common::Left(cells) => cells,
+            Common::Spent => return false,
+        };
+        if !cells.exceeds(grid, own) {
+            return false;
         }
         let both = cells.meet(own);
-        let left = both.exceeds(board, Cells::empty());
-        Common {
-            live: true,
-            some: true,
-            spent: !left,
-            cells: both,
+        if both.exceeds(grid, Cells::empty()) {
+            *self = Common::Left(both);
+        } else {
+            *self = Common::Spent;
         }
+        true
     }
 
-    // The smallest cell common to all moves so far, of which there are some; 0 where there is none.
-    fn least(self, board: Board) -> usize
-        requires { Fits board }
-        ensures { LeastAny board self result }
+    // The smallest cell common to all moves so far, of which there are some; 0 where there is none, as `smallest` says.
+    fn least(self, grid: Grid) -> usize
+        ensures least { LeastAny grid.board self result }
+        ensures low { result < 2 ^ 32 }
     {
-        if self.spent {
-            return 0;
+        match self {
+            Common::Left(cells) => cells.least(grid),
+            _ => 0,
         }
-        self.cells.least(board)
     }
 }
 
-// What the moves of a wait tell: the smallest cell that is in all of them, 0 where there is none, and how many aren't live.
-#[derive(Clone, Copy)]
-struct Looked {
-    cell: usize,
-    idle: usize,
-}
-
-// Looks at the moves of the wait at node i. Where no cell is common any more, all that are left aren't live.
-fn look(t: &[u32], board: Board, i: usize) -> Looked
-    requires fits { Fits board }
-    requires stands { SomeNode (WeighedOn board t.now) a_wait i }
-    ensures { LookedAny board t.now i result }
+// How many moves of the wait at node i aren't live, or its fault. Where no cell is common any more, none that is left is live. (Those that
+// are live are counted on the way, which also looks for the fault.)
+fn look(t: &[u32], grid: Grid, i: usize) -> Result<usize, Fault>
+    requires stands { SomeNode (WeighedOn grid.board t.now) a_wait i }
+    ensures { LookedAny grid.board t.now i result }
 {
     let under = under_at(t, i);
-    let mut common = Common::none();
+    let mut common = Common::NoMove;
     let mut next = i + 1;
-    let mut idle = 0;
-    let mut j = 0;
-    while j < under {
-        if common.spent {
+    let mut live = 0;
+    for _ in 0..under {
+        if let Common::Spent = common {
             break;
         }
-        common = common.and_this(t, board, next);
-        next = end_at(t, next);
-        if !common.live {
-            idle += 1;
+        if common.and_this(t, grid, next) {
+            live += 1;
         }
-        j += 1;
+        next = end_at(t, next);
     }
-    let cell = common.least(board);
-    Looked {
-        cell,
-        idle: idle + (under - j),
+    match Fault::of(i, common.least(grid)) {
+        Some(fault) => Err(fault),
+        None => Ok(under - live),
     }
 }
 
-// The same of node i; a move tells nothing.
-fn look_at(t: &[u32], board: Board, i: usize) -> Looked
-    requires fits { Fits board }
-    requires stands { SomeTreeNode board t.now i }
-    ensures { LookedAt board t.now i result }
+// The same of node i; a move has no fault, and no moves right under it.
+fn look_at(t: &[u32], grid: Grid, i: usize) -> Result<usize, Fault>
+    requires stands { SomeTreeNode grid.board t.now i }
+    ensures { LookedAt grid.board t.now i result }
 {
     if is_move(t, i) {
-        return Looked { cell: 0, idle: 0 };
+        return Ok(0);
     }
-    look(t, board, i)
+    look(t, grid, i)
 }
 
-// 11: the first wait that is not elusive; or that all are, and how many moves aren't live, wherever they stand.
-pub fn not_elusive(t: &[u32], board: Board) -> Elusive
-    requires { SomeSheet t.now board }
-    ensures { (s : Sheet) → HoldsSheet t.now board s → ElusiveFound s result }
+// 11: how many moves aren't live, wherever they stand; or the first wait that is not elusive.
+pub fn not_elusive(t: &[u32], grid: Grid) -> Result<usize, Fault>
+    requires { SomeSheet t.now grid.board }
+    ensures { (s : Sheet) → HoldsSheet t.now grid.board s → ElusiveFound s result }
 {
     let end = end_at(t, 0);
     let mut idle = 0;
     for i in 0..end {
-        let w = look_at(t, board, i);
-        let cell = w.cell;
-        if cell != 0 {
-            return Elusive::Not {
-                node: i,
-                cell: cell as u32,
-            };
-        }
-        idle += w.idle;
+        idle += look_at(t, grid, i)?;
     }
-    Elusive::All { idle }
+    Ok(idle)
 }
 
-// Moves the move at node `from`, with all live moves under it, up to node `to`, and returns the node after it.
+// Moves the move at node `from`, with all live moves under it, up to node `to`, and returns the node after it. (Moves and waits are two
+// functions that call each other, as the definitions do.)
 #[cycle(thin_move_thin_wait)]
-fn thin_move(t: &mut [u32], board: Board, from: usize, to: usize) -> usize
-    requires fits { Fits board }
-    requires stands { SomeNode (WeighedOn board t.old) a_move from }
+fn thin_move(t: &mut [u32], grid: Grid, from: usize, to: usize) -> usize
+    requires stands { SomeNode (WeighedOn grid.board t.old) a_move from }
     requires small { length t.old ≤ least_workspace }
     requires up { to ≤ from }
-    ensures { MoveThinnedAny board t.old from to result t.new }
+    ensures { MoveThinnedAny grid.board t.old from to result t.new }
 {
     let under = under_at(t, from);
     let cell = cell_at(t, from);
     let mut next = from + 1;
     let mut out = to + 1;
-    let mut j = 0;
-    while j < under {
+    for _ in 0..under {
         let after = end_at(t, next);
-        out = thin_wait(t, board, next, out);
+        out = thin_wait(t, grid, next, out);
         next = after;
-        j += 1;
     }
     set_node(t, to, cell as u32, under as u32);
     out
@@ -191,51 +142,48 @@ fn thin_move(t: &mut [u32], board: Board, from: usize, to: usize) -> usize
 
 // Moves the wait at node `from`, with the live moves under it and all live moves under these, up to node `to`, and returns the node after it.
 #[cycle(thin_move_thin_wait)]
-fn thin_wait(t: &mut [u32], board: Board, from: usize, to: usize) -> usize
-    requires fits { Fits board }
-    requires stands { SomeNode (WeighedOn board t.old) a_wait from }
+fn thin_wait(t: &mut [u32], grid: Grid, from: usize, to: usize) -> usize
+    requires stands { SomeNode (WeighedOn grid.board t.old) a_wait from }
     requires small { length t.old ≤ least_workspace }
     requires up { to ≤ from }
-    ensures { WaitThinnedAny board t.old from to result t.new }
+    ensures { WaitThinnedAny grid.board t.old from to result t.new }
 {
     let under = under_at(t, from);
-    let mut common = Common::none();
+    let mut common = Common::NoMove;
     let mut next = from + 1;
     let mut out = to + 1;
+    // Counted by hand: a live move is also moved, and no `filter` could write the table.
     let mut kept: u32 = 0;
-    let mut j = 0;
-    while j < under {
-        if common.spent {
+    for _ in 0..under {
+        if let Common::Spent = common {
             break;
         }
         let after = end_at(t, next);
-        common = common.and_this(t, board, next);
-        if common.live {
-            out = thin_move(t, board, next, out);
+        if common.and_this(t, grid, next) {
+            out = thin_move(t, grid, next, out);
             kept += 1;
         }
         next = after;
-        j += 1;
     }
     set_node(t, to, 0, kept);
     out
 }
 
 // Takes the moves that aren't live out of the sheet in the table, with all under them, and weighs it again.
-fn thin(t: &mut [u32], board: Board)
-    requires { SomeSheet t.old board }
-    ensures { (s : Sheet) → HoldsSheet t.old board s → HoldsLiving t.new board s }
+fn thin(t: &mut [u32], grid: Grid)
+    requires { SomeSheet t.old grid.board }
+    ensures { (s : Sheet) → HoldsSheet t.old grid.board s → HoldsLiving t.new grid.board s }
 {
-    thin_move(t, board, 0, 0);
+    thin_move(t, grid, 0, 0);
     weigh_move(t, 0);
 }
 
 // Takes the moves that aren't live out of the sheet in the table, given how many they are, wherever they stand.
-pub fn keep_live(t: &mut [u32], board: Board, idle: usize)
-    requires { SomeIdle t.old board idle }
-    ensures { (s : Sheet) → HoldsSheet t.old board s → idle ≡ idle_count s → KeepsLive t.new board s idle }
+pub fn keep_live(t: &mut [u32], grid: Grid, idle: usize)
+    requires { SomeIdle t.old grid.board idle }
+    ensures { (s : Sheet) → HoldsSheet t.old grid.board s → idle ≡ idle_count s → KeepsLive t.new grid.board s idle }
 {
     if idle != 0 {
-        thin(t, board);
+        thin(t, grid);
     }
 }

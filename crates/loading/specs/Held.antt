@@ -1,6 +1,7 @@
 -- What a text that was read leaves: the sheet is held in the table, its set-up stones in two sets, or it is refused; and the table,
 -- number by number.
 use Rattle.std.specs.Prelude.{◌≡◌, ℕ, List, [], ltb, length, if◌then◌else◌}
+use Rattle.std.specs.Prelude as code
 use Rattle.std.proofs.Math.Option.{Option, none, some}
 use Rattle.rules.specs.Sizes.{most_bytes}
 use Rattle.rules.specs.Lines.{Header, header_line}
@@ -8,43 +9,24 @@ use Rattle.rules.specs.Text.{Bytes}
 use Rattle.rules.specs.Tree.{Sheet}
 use Rattle.rules.specs.Reading.{Result, refused, got, read_set_up, read_body}
 use Rattle.rules.specs.Entries.{read_text}
-use Rattle.rules.specs.declared.Board.{Board}
-use Rattle.rules.specs.declared.Player.{Player}
 use Rattle.rules.specs.declared.Verdict.{Verdict}
 use Rattle.nodes.specs.Nodes.{alone, a_move, nodes_of_waits}
 use Rattle.nodes.specs.Weighing.{weighed}
-use Rattle.nodes.specs.Sheets.{HeldStones, HoldsWhole}
-use Rattle.nodes.specs.declared.SetUp.{SetUp}
+use Rattle.nodes.specs.Sheets.{HoldsWhole}
+use Rattle.nodes.specs.declared.head.Head.{Head}
 use Rattle.reading.specs.Kept.{stored_after}
-use Rattle.loading.specs.declared.Loaded.{Loaded}
-use Rattle.loading.specs.declared.SheetRead.{SheetRead}
 
 -- the text reads as a sheet, which the table holds with what is set up before its tree
-pub record SheetHeld (text : Bytes) (t : List ℕ) (b : Board) (p : Player) (u : SetUp) : Type 0 where
+pub record SheetHeld (text : Bytes) (t : List ℕ) (h : Head) : Type 0 where
   pub sheet : Sheet
   pub reads : read_text text ≡ got sheet
-  pub for : sheet.player ≡ p
-  pub whole : HoldsWhole t b u sheet
-
--- nothing is set up: no stones, and no line of a first node
-pub record Bare (u : SetUp) : Type 0 where
-  pub no_stones : (b : Board) → HeldStones b [] u.own u.opp
-  pub no_first : u.first ≡ 0
-
--- the text is refused, and nothing is set up
-pub record SheetRefused (text : Bytes) (v : Verdict) (u : SetUp) : Type 0 where
-  pub reads : read_text text ≡ refused v
-  pub bare : Bare u
+  pub for : sheet.player ≡ h.player
+  pub whole : HoldsWhole t h.grid.board h.set_up sheet
 
 -- 2 to 9 and 19, or that
-abbrev pub SheetReply : Bytes → SheetRead → SetUp → List ℕ → Type 0
-SheetReply text (SheetRead.Got b p) u t = SheetHeld text t b p u
-SheetReply text (SheetRead.Refused v) u t = SheetRefused text v u
-
--- a reply that refuses, with nothing set up
-pub record Unloaded (v : Verdict) (r : Loaded) : Type 0 where
-  pub read_is : r.read ≡ SheetRead.Refused v
-  pub bare : Bare r.setup
+abbrev pub SheetReply : Bytes → code.Result Head Verdict → List ℕ → Type 0
+SheetReply text (code.Ok h) t = SheetHeld text t h
+SheetReply text (code.Err v) t = read_text text ≡ refused v
 
 -- the table in which a body's nodes were stored, after the reading came to r: weighed where that is a sheet
 abbrev pub settled : Result Sheet → List ℕ → List ℕ
@@ -61,6 +43,6 @@ loaded_from (some x) t =
 unfoldable pub loaded : Bytes → List ℕ → List ℕ
 loaded text t = if ltb most_bytes (length text) then t else loaded_from (header_line text) t
 
-pub record SheetKept (text : Bytes) (t : List ℕ) (r : Loaded) (t' : List ℕ) : Type 0 where
-  pub reply_is : SheetReply text r.read r.setup t'
+pub record SheetKept (text : Bytes) (t : List ℕ) (r : code.Result Head Verdict) (t' : List ℕ) : Type 0 where
+  pub reply_is : SheetReply text r t'
   pub table_is : t' ≡ loaded text t

@@ -1,3 +1,2 @@
 -- What the contracts of `loading` cite.
 pub mod Held
-pub mod Copied

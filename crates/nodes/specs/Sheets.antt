@@ -7,7 +7,7 @@ use Rattle.rules.specs.Plain.{WellRead}
 use Rattle.rules.specs.declared.Board.{Board}
 use Rattle.cells.specs.Cells.{Holds}
 use Rattle.cells.specs.declared.Cells.{Cells}
-use Rattle.nodes.specs.declared.SetUp.{SetUp}
+use Rattle.nodes.specs.declared.head.SetUp.{SetUp}
 use Rattle.nodes.specs.Nodes.{a_move, nodes_of_waits}
 use Rattle.nodes.specs.Table.{WeighedRow, At}
 
@@ -37,7 +37,7 @@ pub record HeldStones (b : Board) (cs : List Stone) (own opp : Cells) : Type 0 w
 
 -- what is set up is the sheet's: its stones, and the line of its first node, no further on than a text is long
 pub record HoldsSetUp (b : Board) (s : Sheet) (u : SetUp) : Type 0 where
-  pub stones : HeldStones b s.set_up u.own u.opp
+  pub stones : HeldStones b s.set_up u.stones.own u.stones.opp
   pub first_is : u.first ≡ s.root.line
   pub low : u.first ≤ most_bytes + 2
 

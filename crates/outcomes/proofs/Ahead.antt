@@ -12,7 +12,7 @@ use Rattle.rules.proofs.Places.{cell_range}
 use Rattle.nodes.specs.Nodes.{a_wait, a_move, size, nodes_of_waits, nodes_of_moves}
 use Rattle.nodes.specs.Table.{cell_in, end_in, Each, At}
 use Rattle.nodes.proofs.Trees.{moves_count, wait_first, move_first}
-use Rattle.outcomes.specs.Searching.{Seated, Ahead, no_more, wait_ahead, move_past, SomeAhead, WaitNext}
+use Rattle.outcomes.specs.Searching.{Seated, Ahead, no_more, wait_ahead, move_past, SomeAhead}
 
 -- the node at hand is one of the table, and it is a wait, or it is passed over
 pub record Stood (b : Board) (t : List ℕ) (end i : ℕ) (ws : Waits) : Type 0 where
@@ -91,9 +91,6 @@ pub record Passing (t : List ℕ) (end i next : ℕ) : Type 0 where
   pub on : i ≤ next
   pub still : (b : Board) (ws : Waits) → Ahead b t end i ws → Ahead b t end next ws
 
-pub passing_starts : {t : List ℕ} {end i : ℕ} → Passing t end i i
-passing_starts = record { on = omega arith; still = λ b ws a. a }
-
 module _ {t : List ℕ} {end i next : ℕ} (w : Passing t end i next) where
   pub passing_stood : next < end → (s : SomeAhead t end i) → Stood s.0 t end next s.1
   passing_stood h s = stood h (w.still _ _ s.2)
@@ -101,6 +98,3 @@ module _ {t : List ℕ} {end i next : ℕ} (w : Passing t end i next) where
   pub passing_again : next < end → SomeAhead t end i → (to : ℕ) → to ≡ end_in t next → 1 ≤ cell_in t next → Passing t end i to
   passing_again h s to e p =
       record { on = omega (arith, w.on, (passing_stood h s).on); still = λ b ws a. rw e ((stood h (w.still b ws a)).past p) }
-
-  pub passing_done : (next < end → cell_in t next ≡ 0) → (b : Board) (ws : Waits) → Ahead b t end i ws → WaitNext b t end i next ws
-  passing_done f b ws a = record { ahead = w.still b ws a; on = w.on; is_wait_lem = f }

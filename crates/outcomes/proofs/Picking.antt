@@ -219,9 +219,6 @@ module _ {b : Board} {t start rows : List ℕ} {i number under next left k j : �
             rw (less, e, f) (s.then out (g s.first s.pick));
       }
 
-pub picking_wait_starts : {b : Board} {t : List ℕ} {i number own : ℕ} → own ≡ count_in t (i + 1) → PickingWait b t i number (i + 1) number own
-picking_wait_starts e = record { on = omega arith; own_is = e; moves = λ ms p. moves_start p }
-
 module _ {b : Board} {t : List ℕ} {i number next k own : ℕ} (w : PickingWait b t i number next k own) where
   -- the next move, and the others where it is not the one
   pub picking_wait_step : (n : SomeWaitPick b t i number) → MoveStep b t next k number n.0

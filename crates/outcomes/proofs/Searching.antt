@@ -1,4 +1,5 @@
 -- The search wait by wait: the moves of the wait at hand one after another, each with the outcomes that go on from it.
+use Rattle.std.specs.Prelude as code
 use mathlib.Core.Path.{◌≡◌, refl, sym, ap, subst, ◌∙◌}
 use mathlib.Core.Bool.{Bool, true, false, ◌||◌}
 use Prim.Native.Nat.{ℕ, ◌+◌, ◌*◌, ◌/◌, ◌-◌, ◌<◌, ◌≤◌}
@@ -8,6 +9,7 @@ use mathlib.Core.List.{List, ◌++◌}
 use lib.ListN.{length}
 use Rattle.rules.specs.declared.Board.{Board}
 use Rattle.rules.specs.declared.Player.{Player}
+use Rattle.rules.specs.declared.Verdict.{Verdict}
 use Rattle.rules.specs.declared.Verdict.TheVariants.{NotJoined}
 use Rattle.rules.specs.Sizes.{most_outcomes}
 use Rattle.rules.specs.Words.{among}
@@ -28,8 +30,6 @@ use Rattle.cells.proofs.Held.{held_cell}
 use Rattle.nodes.specs.Nodes.{a_move, size, nodes_of_waits, nodes_of_moves}
 use Rattle.nodes.specs.Table.{cell_in, end_in, count_in, Each}
 use Rattle.nodes.proofs.Trees.{moves_count, move_first}
-use Rattle.outcomes.specs.declared.Unjoined.{Unjoined}
-use Rattle.outcomes.specs.declared.Unjoined.TheVariants.{First, Nothing}
 use Rattle.outcomes.specs.Searching.{Seated, Ahead, no_more, WaitNext, Going, SomeGoing, walked, answer_of, SearchFound, Countable, UnjoinedFound}
 use Rattle.outcomes.proofs.Picking.{wait_weight, move_weight}
 use Rattle.outcomes.proofs.GoingOn.{walked_joined, walked_here, walked_none, walked_choice, walked_got}
@@ -53,12 +53,12 @@ set_holds b rows =
 
 -- from a set that joins all but one are passed over; a set that does not, and has no wait left, is the first
 pub found_joining : {b : Board} (p : Player) {t : List ℕ} (rows : List ℕ) {end i many : ℕ} (number : ℕ) → joined b p (held b rows) ≡ true
-    → SearchFound b p t end i many number rows (Nothing (many - 1))
+    → SearchFound b p t end i many number rows (code.Ok (many - 1))
 found_joining {b} p rows number e ws xs g h =
     walked_joined b p number xs ws (sym (held_joined p h) ∙ e) (ahead_some g.ahead) ∙ ap (λ (k : ℕ). got (k - 1)) (sym g.many_are)
 
 pub found_here : {b : Board} (p : Player) {t : List ℕ} (rows : List ℕ) {end i many : ℕ} (number : ℕ) {r : ℕ} → joined b p (held b rows) ≡ false → ((ws : Waits) → Ahead b t end i ws → WaitNext b t end i r ws)
-    → r ≡ end → SearchFound b p t end i many number rows (First number)
+    → r ≡ end → SearchFound b p t end i many number rows (code.Err (NotJoined number))
 found_here {b} p rows number {r = r} e f z ws xs g h =
     ap (walked b p number xs) (none_ahead r z (f ws g.ahead).ahead) ∙ walked_here b p number xs (sym (held_joined p h) ∙ e)
 
@@ -132,10 +132,10 @@ pub record ChoiceStep (b : Board) (p : Player) (t : List ℕ) (end number : ℕ)
   pub inside : next < end
   pub few : n + count_in t next * others ≤ most_outcomes
   pub going : SomeGoing b t end (next + 1) (count_in t next * others) n
-  pub then : (out : List ℕ) (more : ℕ) → WithNext b t rows out next → SearchFound b p t end (next + 1) (count_in t next * others) n out (Nothing more)
+  pub then : (out : List ℕ) (more : ℕ) → WithNext b t rows out next → SearchFound b p t end (next + 1) (count_in t next * others) n out (code.Ok more)
       → ChoicesLeft b p t end number rows ws after others (end_in t next) (n + count_in t next * others) (passed + more)
-  pub found : (k : ℕ) (out : List ℕ) → WithNext b t rows out next → SearchFound b p t end (next + 1) (count_in t next * others) n out (First k)
-      → (xs : List ℕ) → Holds b rows xs → walked b p number xs ws ≡ refused (NotJoined k)
+  pub found : (v : Verdict) (out : List ℕ) → WithNext b t rows out next → SearchFound b p t end (next + 1) (count_in t next * others) n out (code.Err v)
+      → (xs : List ℕ) → Holds b rows xs → walked b p number xs ws ≡ refused v
 
 -- so many more are passed over at the first move
 one_more : (r : Result ℕ) (passed more : ℕ) → ((r >>= λ j. got (more + j)) >>= λ k. got (passed + k)) ≡ (r >>= λ k. got (passed + more + k))
@@ -168,12 +168,12 @@ choice_step {b} {p} {t} {rows} {end} {number} {after} {others} {next} {n} {passe
           many_are = many;
           few = few;
         } in
-        let searched : (out : List ℕ) (r : Unjoined) → WithNext b t rows out next → SearchFound b p t end (next + 1) (count_in t next * others) n out r
+        let searched : (out : List ℕ) (r : code.Result ℕ Verdict) → WithNext b t rows out next → SearchFound b p t end (next + 1) (count_in t next * others) n out r
         → (xs : List ℕ) → Holds b rows xs → walked b p n (xs ++ stone c) below ≡ answer_of r =
         λ out r o q xs k.
         q below (xs ++ stone c) going
         (holds_more c k (subst (λ (y : ℕ). (x : ℕ) → held b out x ≡ (held b rows x || among (stone y) x)) f.0.here.weight.row.cell o)) in
-        let split : (out : List ℕ) (r : Unjoined) → WithNext b t rows out next → SearchFound b p t end (next + 1) (count_in t next * others) n out r
+        let split : (out : List ℕ) (r : code.Result ℕ Verdict) → WithNext b t rows out next → SearchFound b p t end (next + 1) (count_in t next * others) n out r
         → (xs : List ℕ) → Holds b rows xs
         → walked b p number xs ws ≡ ((answer_of r >>= λ k. walked b p (n + count_of_waits below) xs (wait l.line ms l.later) >>= λ j. got (k + j)) >>= λ k. got (passed + k)) =
         λ out r o q xs k.
@@ -200,14 +200,14 @@ choice_step {b} {p} {t} {rows} {end} {number} {after} {others} {next} {n} {passe
             few = rw own (omega arith);
             passed_few =
                 let xs = listed b (held b rows) in
-                let told = walked_got b p n (xs ++ stone c) below more (searched out (Nothing more) o q xs (set_holds b rows)) in
+                let told = walked_got b p n (xs ++ stone c) below more (searched out (code.Ok more) o q xs (set_holds b rows)) in
                 omega (arith, told.1, passed_few b p (xs ++ stone c) below, l.passed_few);
             so_far = λ xs k.
-                split out (Nothing more) o q xs k
+                split out (code.Ok more) o q xs k
                 ∙ one_more (walked b p (n + count_of_waits below) xs (wait l.line ms l.later)) passed more
                 ∙ ap (λ (y : ℕ). walked b p (n + y) xs (wait l.line ms l.later) >>= λ j. got (passed + more + j)) (sym many);
           };
-          found = λ j out o q. split out (First j) o q;
+          found = λ v out o q. split out (code.Err v) o q;
         }
 
 -- none is left at the wait's end
@@ -224,7 +224,7 @@ choices_done {b} {p} {t} {rows} {end} {number} {after} {others} {next} {n} {pass
     go (move line c us ms) u s xs k = absurd (omega arith)
 
 -- the loop's invariant, whatever waits are left
-pub record Searching (b : Board) (p : Player) (t : List ℕ) (end i many number : ℕ) (rows : List ℕ) (at after others next n passed : ℕ) : Type 0 where
+pub record Searching (b : Board) (p : Player) (t : List ℕ) (end i many number : ℕ) (rows : List ℕ) (after others next n passed : ℕ) : Type 0 where
   pub on : i < next
   pub no_join : joined b p (held b rows) ≡ false
   pub left : (ws : Waits) → Going b t end i many number ws → ChoicesLeft b p t end number rows ws after others next n passed
@@ -239,7 +239,7 @@ searching_first p rows f nz g = choices_start g.1 (f g.0 g.1.ahead) nz
 
 pub searching_starts : {b : Board} {p : Player} {t rows : List ℕ} {end i many number at : ℕ} → joined b p (held b rows) ≡ false → Told b t end i at → ¬ (at ≡ end)
     → SomeGoing b t end i many number → (own after : ℕ) → own ≡ count_in t at → after ≡ end_in t at
-    → Searching b p t end i many number rows at after (many / own) (at + 1) number 0
+    → Searching b p t end i many number rows after (many / own) (at + 1) number 0
 searching_starts j f nz g own after e z =
     record {
       on = omega (arith, (f g.0 g.1.ahead).on);
@@ -247,14 +247,14 @@ searching_starts j f nz g own after e z =
       left = λ ws h. rw (e, z) (choices_start h (f ws h.ahead) nz).left;
     }
 
-module _ {b : Board} {p : Player} {t rows : List ℕ} {end i many number at after others next n passed : ℕ} (w : Searching b p t end i many number rows at after others next n passed) where
+module _ {b : Board} {p : Player} {t rows : List ℕ} {end i many number after others next n passed : ℕ} (w : Searching b p t end i many number rows after others next n passed) where
   -- the next move
   pub searching_step : next < after → (g : SomeGoing b t end i many number) → ChoiceStep b p t end number rows g.0 after others next n passed
   searching_step h g = choice_step w.no_join h (w.left g.0 g.1)
 
   module _ (h : next < after) (own : ℕ) (out : List ℕ) (e : own ≡ count_in t next) (o : WithNext b t rows out next) where
-    pub searching_again : SomeGoing b t end i many number → (to more : ℕ) → to ≡ end_in t next → SearchFound b p t end (next + 1) (own * others) n out (Nothing more)
-        → Searching b p t end i many number rows at after others to (n + own * others) (passed + more)
+    pub searching_again : SomeGoing b t end i many number → (to more : ℕ) → to ≡ end_in t next → SearchFound b p t end (next + 1) (own * others) n out (code.Ok more)
+        → Searching b p t end i many number rows after others to (n + own * others) (passed + more)
     searching_again g to more z q =
         record {
           on = omega (arith, w.on, (searching_step h g).on);
@@ -263,13 +263,13 @@ module _ {b : Board} {p : Player} {t rows : List ℕ} {end i many number at afte
         }
 
     -- no more are passed over than there are outcomes
-    pub searching_fits : SomeGoing b t end i many number → (more : ℕ) → SearchFound b p t end (next + 1) (own * others) n out (Nothing more) → passed + more ≤ most_outcomes
+    pub searching_fits : SomeGoing b t end i many number → (more : ℕ) → SearchFound b p t end (next + 1) (own * others) n out (code.Ok more) → passed + more ≤ most_outcomes
     searching_fits g more q = let step = searching_step h g in omega (arith, step.few, (step.then out more o (rw e at q)).passed_few)
 
-    pub searching_found : (k : ℕ) → SearchFound b p t end (next + 1) (own * others) n out (First k) → SearchFound b p t end i many number rows (First k)
-    searching_found k q ws xs g j = (choice_step w.no_join h (w.left ws g)).found k out o (rw e at q) xs j
+    pub searching_found : (v : Verdict) → SearchFound b p t end (next + 1) (own * others) n out (code.Err v) → SearchFound b p t end i many number rows (code.Err v)
+    searching_found v q ws xs g j = (choice_step w.no_join h (w.left ws g)).found v out o (rw e at q) xs j
 
-  pub searching_done : after ≤ next → SearchFound b p t end i many number rows (Nothing passed)
+  pub searching_done : after ≤ next → SearchFound b p t end i many number rows (code.Ok passed)
   searching_done h ws xs g j = choices_done h (w.left ws g) xs j
 
 -- at a move all its waits are left, and its stone is the set
@@ -282,7 +282,7 @@ whole_going {b} {t} {i} {c} {end} {many} {ws} m e q =
       few = omega (arith, move_weight ws m.at.here.weight m.few, m.few);
     }
 
-pub whole_found : {b : Board} (p : Player) {t : List ℕ} {i end many : ℕ} (r : Unjoined) (rows out : List ℕ) (cell : ℕ) → cell ≡ cell_in t i → end ≡ end_in t i → many ≡ count_in t i
+pub whole_found : {b : Board} (p : Player) {t : List ℕ} {i end many : ℕ} (r : code.Result ℕ Verdict) (rows out : List ℕ) (cell : ℕ) → cell ≡ cell_in t i → end ≡ end_in t i → many ≡ count_in t i
     → ((x : ℕ) → held b out x ≡ (held b rows x || among (stone cell) x)) → SearchFound b p t end (i + 1) many 0 out r → UnjoinedFound b p t i rows r
 whole_found p r rows out cell y e q o f c ws xs m h =
     let same : cell ≡ c = y ∙ m.at.here.weight.row.cell in

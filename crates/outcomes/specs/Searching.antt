@@ -1,20 +1,20 @@
 -- The first outcome of a move that does not join, and how many are passed over: the walk over the choices, wait by wait.
 use Rattle.std.specs.Prelude.{◌≡◌, ℕ, ◌+◌, ◌<◌, ◌≤◌, List, ◌++◌, map, T}
+use Rattle.std.specs.Prelude as code
 use Rattle.rules.specs.declared.Board.{Board}
 use Rattle.rules.specs.declared.Player.{Player}
-use Rattle.rules.specs.declared.Verdict.TheVariants.{NotJoined}
+use Rattle.rules.specs.declared.Verdict.{Verdict}
 use Rattle.rules.specs.Sizes.{most_outcomes}
 use Rattle.rules.specs.Board.{is_cell}
 use Rattle.rules.specs.Tree.{Waits, no_waits, wait, Moves, stone}
 use Rattle.rules.specs.Outcomes.{count_of_waits, outcomes_of_waits}
 use Rattle.rules.specs.Passing.{passed_from, UnlikeWaits}
-use Rattle.rules.specs.Reading.{Result, refused, got}
+use Rattle.rules.specs.Reading.{Result, got}
+use Rattle.rules.specs.Answer.{as_result}
 use Rattle.rules.specs.Entries.{◌>>=◌, refuse_unjoined}
 use Rattle.cells.specs.Cells.{Holds}
 use Rattle.nodes.specs.Nodes.{Nodes, Kind, other, a_wait, a_move, size, count_of, nodes_of_waits, nodes_of_moves}
 use Rattle.nodes.specs.Table.{cell_in, WeighedRow, WeighedOn, Each, At}
-use Rattle.outcomes.specs.declared.Unjoined.{Unjoined}
-use Rattle.outcomes.specs.declared.Unjoined.TheVariants.{First, Nothing}
 
 -- a move's cell is one of the board, a wait's is 0
 abbrev pub CellOf : Kind → Board → ℕ → Type 0
@@ -63,13 +63,12 @@ walked b p number xs ws = do
   _ ← refuse_unjoined b p number (going_on xs (outcomes_of_waits ws))
   got (passed_from b p xs ws)
 
--- what the answer stands for
-abbrev pub answer_of : Unjoined → Result ℕ
-answer_of (First n) = refused (NotJoined n)
-answer_of (Nothing passed) = got passed
+-- what the answer stands for: how many were passed over, or 13
+abbrev pub answer_of : code.Result ℕ Verdict → Result ℕ
+answer_of = as_result (λ passed. passed)
 
 -- the answer is right whatever waits are left, and whatever cells the set has
-abbrev pub SearchFound : Board → Player → List ℕ → (end i many number : ℕ) → List ℕ → Unjoined → Type 0
+abbrev pub SearchFound : Board → Player → List ℕ → (end i many number : ℕ) → List ℕ → code.Result ℕ Verdict → Type 0
 SearchFound b p t end i many number rows r =
     (ws : Waits) (xs : List ℕ) → Going b t end i many number ws → Holds b rows xs → walked b p number xs ws ≡ answer_of r
 
@@ -85,6 +84,6 @@ abbrev pub SomeCountable : Board → List ℕ → ℕ → Type 0
 SomeCountable b t i = (c : ℕ) × (ws : Waits) × Countable b t i c ws
 
 -- the answer is right whatever move stands there, and whatever cells the set has
-abbrev pub UnjoinedFound : Board → Player → List ℕ → ℕ → List ℕ → Unjoined → Type 0
+abbrev pub UnjoinedFound : Board → Player → List ℕ → ℕ → List ℕ → code.Result ℕ Verdict → Type 0
 UnjoinedFound b p t i rows r =
     (c : ℕ) (ws : Waits) (xs : List ℕ) → Countable b t i c ws → Holds b rows xs → walked b p 0 (xs ++ stone c) ws ≡ answer_of r

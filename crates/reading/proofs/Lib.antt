@@ -1,6 +1,7 @@
+pub mod Refusing
 pub mod OnBoard
-pub mod SettingUp
 pub mod Line
+pub mod SettingUp
 pub mod Storing
 pub mod Standing
 pub mod Body

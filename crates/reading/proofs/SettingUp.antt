@@ -1,18 +1,21 @@
 -- Set-up lines: the two sets of stones, one line, and all of them.
 use mathlib.Core.Path.{◌≡◌, refl, sym, ap, subst, subst⁻¹, ◌∙◌}
-use Prim.Native.Nat.{ℕ, zero, suc, ◌+◌, ◌≤◌, ◌<◌}
+use Prim.Native.Nat.{ℕ, zero, suc, ◌+◌, ◌≤◌}
 use native.Mathlib.Omega.{arith}
 use mathlib.Core.Bool.{Bool, true, false, not, ◌||◌, or_comm, or-false}
 use mathlib.Core.List.{List, [], ◌∷◌, ◌++◌}
-use mathlib.Core.Option.{some}
+use mathlib.Core.Option.{none, some}
 use lib.Dec.{T, eqb, not_T}
-use lib.ListN.{length, drop, length-append}
+use lib.ListN.{length, length-append}
+use Rattle.std.specs.Borrow.{Bor}
+use Rattle.std.specs.Prelude as code
 use Rattle.rules.specs.Words.{among}
+use Rattle.rules.specs.Sizes.{most_nodes, most_bytes}
 use Rattle.rules.specs.Board.{is_cell, on_board}
 use Rattle.rules.specs.Text.{Bytes}
-use Rattle.rules.specs.Lines.{Side, own, opp, is_side, Place, SetUpLine, set_up_line}
+use Rattle.rules.specs.Lines.{Side, own, opp, is_side, Place, set_up_line}
 use Rattle.rules.specs.Tree.{Stone, set_up_cells, cells_of}
-use Rattle.rules.specs.Reading.{refused, got, within, cell_of, read_set_up}
+use Rattle.rules.specs.Reading.{refused, got, within, cell_of, set_down, read_set_up}
 use Rattle.rules.specs.declared.Board.{Board}
 use Rattle.rules.specs.declared.Verdict.{Verdict}
 use Rattle.rules.specs.declared.Verdict.TheVariants.{OffBoard, SetUpTwice}
@@ -22,17 +25,13 @@ use Rattle.rules.proofs.Tests.{holds_of}
 use Rattle.rules.proofs.SetUp.{either_side, down, down_off, down_twice, set_up_none, set_up_got, set_up_refused}
 use Rattle.cells.specs.Cells.{held, Holds}
 use Rattle.cells.specs.declared.Cells.{Cells}
-use Rattle.lines.specs.Seen.{Reads, side_of}
-use Rattle.lines.specs.declared.set_up.Side as code
+use Rattle.lines.specs.Seen.{Reads, side_of, set_up_of, set_up_seen}
+use Rattle.lines.specs.declared.set_up.SetUpLine.{SetUpLine}
 use Rattle.nodes.specs.Sheets.{HeldStones}
+use Rattle.nodes.specs.declared.head.Stones.{Stones}
 use Rattle.reading.specs.Numbered.{numbered}
-use Rattle.reading.specs.Spots.{Ready}
-use Rattle.reading.specs.SetUp.{NoStone, StoneGot, StoneRefused, StepKept, SetUpReply}
-use Rattle.reading.specs.declared.Spot.{Spot}
-use Rattle.reading.specs.declared.Stones.{Stones}
-use Rattle.reading.specs.declared.Step.{Step}
-use Rattle.reading.specs.declared.Read.TheVariants as Read
-use Rattle.reading.specs.declared.Numbered.TheVariants.{On, Off}
+use Rattle.reading.specs.SetUp.{StoneGot, StoneRefused, SetUpGot}
+use Rattle.reading.specs.declared.spot.Spot.{Spot}
 use Rattle.reading.proofs.OnBoard.{numbered_on, numbered_off}
 
 -- one stone more in a list
@@ -79,147 +78,110 @@ module _ (b : Board) (cs : List Stone) (x : ℕ) where
     unfolding is_side
     put_opp f = record { own_held = none_held own opp refl _ h.own_held; opp_held = one_held opp refl _ _ h.opp_held f }
 
-pub put_by : (b : Board) (cs : List Stone) (mine theirs : Cells) (x : ℕ) (v w : code.Side) → v ≡ w → HeldStones b (cs ++ record { side = side_of w; cell = x } ∷ []) mine theirs
-    → HeldStones b (cs ++ record { side = side_of v; cell = x } ∷ []) mine theirs
-put_by b cs mine theirs x v w e h = subst⁻¹ (λ (o : code.Side). HeldStones b (cs ++ record { side = side_of o; cell = x } ∷ []) mine theirs) e h
-
-pub no_stones : (mine theirs : Cells) → ((b : Board) (x : ℕ) → held b mine.rows x ≡ false) → ((b : Board) (x : ℕ) → held b theirs.rows x ≡ false)
-    → (b : Board) → HeldStones b [] mine theirs
-unfolding cells_of among
-no_stones mine theirs f g b = record { own_held = record { same = f b }; opp_held = record { same = g b } }
-
-pub on_either : (b : Board) (cs : List Stone) (mine theirs : Cells) (x : ℕ) → HeldStones b cs mine theirs
-    → (held b mine.rows x || held b theirs.rows x) ≡ among (set_up_cells cs) x
-on_either b cs mine theirs x h = rw (h.own_held.same x, h.opp_held.same x) (sym (either_side cs x))
-
 -- One line
-pub stone_cell : (b : Board) (p : Place) (n : ℕ) → On n ≡ numbered b (some p) → T (is_cell b n)
+pub stone_cell : (b : Board) (p : Place) (n : ℕ) → code.Some n ≡ numbered b (some p) → T (is_cell b n)
 unfolding within cell_of
 stone_cell b p n e =
     let w = numbered_on b (some p) n e in
     subst (λ (z : ℕ). T (is_cell b z)) w.number (cell_on_lem b p.column p.row (holds_of w.inside))
 
-module _ (b : Board) (body : Bytes) (s : Spot) (l : SetUpLine) (next : ℕ) (q : Reads body s.at set_up_line (some (l, next))) where
-  pub stone_off : Off ≡ numbered b (some l.place) → (cs : List Stone) → s.line ≡ length cs + 2 → StoneRefused b body s cs (OffBoard s.line)
+module _ (b : Board) (s : Spot) (said : SetUpLine) (text : Bor Bytes) (q : Reads s.text.now set_up_line (set_up_seen (code.Some (said, text)))) where
+  stone_refused : (cs : List Stone) (v : Verdict) → set_down b (set_up_cells cs) (length cs + 2) (set_up_of said) ≡ refused v → StoneRefused b s cs v
+  stone_refused cs v e = record { said = set_up_of said; left = text.now; begun = omega (arith, q.shorter); line_read = sym q.same; not_down = e }
+
+  pub stone_off : code.None ≡ numbered b (some (set_up_of said).place) → (cs : List Stone) → s.line ≡ length cs + 2 → StoneRefused b s cs (OffBoard s.line)
   unfolding within
   stone_off e cs line =
-      record {
-        said = l;
-        left = drop next body;
-        begun = omega (arith, q.passed.on, q.passed.inside);
-        line_read = sym q.same;
-        not_down =
-            down_off b (set_up_cells cs) (length cs + 2) l (λ h. subst T (numbered_off b (some l.place) e) h)
-            ∙ ap (λ (n : ℕ). refused (OffBoard n)) (sym line);
-      }
+      stone_refused cs _
+      (down_off b (set_up_cells cs) (length cs + 2) (set_up_of said) (λ h. subst T (numbered_off b (some (set_up_of said).place) e) h)
+      ∙ ap (λ (n : ℕ). refused (OffBoard n)) (sym line))
 
-  module _ (n : ℕ) (e : On n ≡ numbered b (some l.place)) where
-    on : T (on_board b l.place.column l.place.row)
+  module _ (n : ℕ) (e : code.Some n ≡ numbered b (some (set_up_of said).place)) where
+    on : T (on_board b said.place.column said.place.row)
     unfolding within
-    on = holds_of (numbered_on b (some l.place) n e).inside
+    on = holds_of (numbered_on b (some (set_up_of said).place) n e).inside
 
-    pub stone_twice : (cs : List Stone) → s.line ≡ length cs + 2 → among (set_up_cells cs) n ≡ true → StoneRefused b body s cs (SetUpTwice s.line n)
-    unfolding cell_of
-    stone_twice cs line h =
-        let w = (numbered_on b (some l.place) n e).number in
-        record {
-          said = l;
-          left = drop next body;
-          begun = omega (arith, q.passed.on, q.passed.inside);
-          line_read = sym q.same;
-          not_down =
-              down_twice b (set_up_cells cs) (length cs + 2) l on (subst⁻¹ (λ (z : ℕ). T (among (set_up_cells cs) z)) w (holds_of h))
-              ∙ ap (λ (z : ℕ). refused (SetUpTwice (length cs + 2) z)) w
-              ∙ ap (λ (z : ℕ). refused (SetUpTwice z n)) (sym line);
-        }
+    module _ (cs : List Stone) (mine theirs : Cells) (h : HeldStones b cs mine theirs) (line : s.line ≡ length cs + 2) where
+      -- a stone is on the cell where one of the two sets holds it
+      named : (t : Bool) → t ≡ (held b mine.rows n || held b theirs.rows n) → among (set_up_cells cs) n ≡ t
+      named t f = either_side cs n ∙ sym (f ∙ rw (h.own_held.same n, h.opp_held.same n))
 
-    pub stone_got : (cs : List Stone) → Ready b body s → s.line ≡ length cs + 2 → among (set_up_cells cs) n ≡ false → (stones : Stones)
-        → HeldStones b (cs ++ record { side = l.side; cell = n } ∷ []) stones.own stones.opp
-        → StoneGot b body s cs (record { at = next; line = s.line + 1; nodes = s.nodes }) stones
-    unfolding cell_of
-    stone_got cs ready line h stones k =
-        let w = (numbered_on b (some l.place) n e).number in
-        record {
-          said = l;
-          stone = record { side = l.side; cell = n };
-          line_read = sym q.same;
-          set_down_lem =
-              down b (set_up_cells cs) (length cs + 2) l on (subst⁻¹ (λ (z : ℕ). T (not (among (set_up_cells cs) z))) w (not_T (among (set_up_cells cs) n) (λ t. subst T h t)))
-              ∙ ap (λ (z : ℕ). got (record { side = l.side; cell = z })) w;
-          held = k;
-          ready =
-              record {
-                fits = ready.fits;
-                short = ready.short;
-                inside = q.passed.inside;
-                line_few = omega (arith, ready.line_few, q.passed.on);
-                nodes_few = ready.nodes_few;
-              };
-          passed = q.passed.on;
-          next_line_lem = refl;
-          same_nodes = refl;
-        }
+      pub stone_twice : true ≡ (held b mine.rows n || held b theirs.rows n) → StoneRefused b s cs (SetUpTwice s.line n)
+      unfolding cell_of
+      stone_twice f =
+          let w = (numbered_on b (some (set_up_of said).place) n e).number in
+          stone_refused cs _
+          (down_twice b (set_up_cells cs) (length cs + 2) (set_up_of said) on
+          (subst⁻¹ (λ (z : ℕ). T (among (set_up_cells cs) z)) w (holds_of (named true f)))
+          ∙ ap (λ (z : ℕ). refused (SetUpTwice (length cs + 2) z)) w
+          ∙ ap (λ (z : ℕ). refused (SetUpTwice z n)) (sym line))
+
+      pub stone_got : (short : s.line + 1 + length text.now ≤ most_bytes + 2) (few : s.nodes ≤ most_nodes) → false ≡ (held b mine.rows n || held b theirs.rows n) → (stones : Stones)
+          → HeldStones b (cs ++ record { side = side_of said.side; cell = n } ∷ []) stones.own stones.opp
+          → StoneGot b s cs (record { text = text; line = s.line + 1; nodes = s.nodes; short = short; few = few }) stones
+      unfolding cell_of
+      stone_got short few f stones k =
+          let w = (numbered_on b (some (set_up_of said).place) n e).number in
+          record {
+            said = set_up_of said;
+            stone = record { side = side_of said.side; cell = n };
+            line_read = sym q.same;
+            set_down_lem =
+                down b (set_up_cells cs) (length cs + 2) (set_up_of said) on
+                (subst⁻¹ (λ (z : ℕ). T (not (among (set_up_cells cs) z))) w (not_T (among (set_up_cells cs) n) (λ t. subst T (named false f) t)))
+                ∙ ap (λ (z : ℕ). got (record { side = side_of said.side; cell = z })) w;
+            held = k;
+            shorter = q.shorter;
+            next_line_lem = refl;
+            same_nodes = refl;
+          }
 
 -- All lines: what is still to be read comes to what was to be read at the start
 pub record SettingUp (b : Board) (body : Bytes) (stones : Stones) (here : Spot) : Type 0 where
   pub set_up : List Stone
   pub most : ℕ
-  pub same : read_set_up (length body) b [] body ≡ read_set_up most b set_up (drop here.at body)
-  pub enough : length body ≤ most + here.at
+  pub same : read_set_up (length body) b [] body ≡ read_set_up most b set_up here.text.now
+  pub enough : length here.text.now ≤ most
+  pub low : here.line + length here.text.now ≤ length body + 2
   pub held : HeldStones b set_up stones.own stones.opp
-  pub ready : Ready b body here
   pub line_is : here.line ≡ length set_up + 2
   pub no_nodes_lem : here.nodes ≡ 0
 
-pub setting_starts : (b : Board) (body : Bytes) (stones : Stones) → Ready b body (record { at = 0; line = 2; nodes = 0 }) → HeldStones b [] stones.own stones.opp
-    → SettingUp b body stones (record { at = 0; line = 2; nodes = 0 })
-setting_starts b body stones r h =
-    record { set_up = []; most = length body; same = refl; enough = omega arith; held = h; ready = r; line_is = refl; no_nodes_lem = refl }
-
 module _ {b : Board} {body : Bytes} {stones : Stones} {here : Spot} (g : SettingUp b body stones here) where
-  some_left : (most : ℕ) → length body ≤ most + here.at → (after : Spot) → here.at < after.at → after.at ≤ length body → (m : ℕ) × (most ≡ suc m)
-  some_left zero e after l i = absurd (omega (arith, e, l, i))
-  some_left (suc m) e after l i = (m, refl)
+  -- one more was to be read
+  some_left : (most : ℕ) → length here.text.now ≤ most → 1 ≤ length here.text.now → (m : ℕ) × (most ≡ suc m)
+  some_left zero e l = absurd (omega (arith, e, l))
+  some_left (suc m) e l = (m, refl)
 
-  pub setting_on : (step : Step) (later : Stones) (after : Spot) → StepKept b body here g.set_up step later → step ≡ Step.Got after
-      → SettingUp b body later after × (here.at < after.at)
-  setting_on step later after k e =
-      let s : StoneGot b body here g.set_up after later = subst (λ (z : Step). StepKept b body here g.set_up z later) e k in
-      let m = some_left g.most g.enough after s.passed s.ready.inside in (
-        record {
-          set_up = g.set_up ++ s.stone ∷ [];
-          most = m.0;
-          same =
-              g.same ∙ ap (λ (z : ℕ). read_set_up z b g.set_up (drop here.at body)) m.1
-              ∙ set_up_got m.0 b g.set_up (drop here.at body) (s.said, drop after.at body) s.line_read s.stone s.set_down_lem;
-          enough = omega (arith, g.enough, m.1, s.passed);
-          held = s.held;
-          ready = s.ready;
-          line_is = s.next_line_lem ∙ omega (arith, g.line_is, length-append g.set_up (s.stone ∷ []));
-          no_nodes_lem = s.same_nodes ∙ g.no_nodes_lem;
-        },
-        s.passed,
-      )
+  pub setting_on : (after : Spot) (later : Stones) → StoneGot b here g.set_up after later → SettingUp b body later after
+  setting_on after later s =
+      let m = some_left g.most g.enough (omega (arith, s.shorter)) in
+      record {
+        set_up = g.set_up ++ s.stone ∷ [];
+        most = m.0;
+        same =
+            g.same ∙ ap (λ (z : ℕ). read_set_up z b g.set_up here.text.now) m.1
+            ∙ set_up_got m.0 b g.set_up here.text.now (s.said, after.text.now) s.line_read s.stone s.set_down_lem;
+        enough = omega (arith, g.enough, m.1, s.shorter);
+        low = omega (arith, g.low, s.shorter, s.next_line_lem);
+        held = s.held;
+        line_is = s.next_line_lem ∙ omega (arith, g.line_is, length-append g.set_up (s.stone ∷ []));
+        no_nodes_lem = s.same_nodes ∙ g.no_nodes_lem;
+      }
 
-  pub setting_done : (step : Step) (later : Stones) → StepKept b body here g.set_up step later → step ≡ Step.Ended → SetUpReply b body (Read.Got here) later
-  setting_done step later k e =
-      let s : NoStone b body here g.set_up later = subst (λ (z : Step). StepKept b body here g.set_up z later) e k in
+  pub setting_done : set_up_line here.text.now ≡ none → SetUpGot b body here stones
+  setting_done e =
       record {
         set_up = g.set_up;
-        reads = g.same ∙ set_up_none g.most b g.set_up (drop here.at body) s.no_line;
-        held = s.held;
-        ready = g.ready;
+        reads = g.same ∙ set_up_none g.most b g.set_up here.text.now e;
+        held = g.held;
         line_is = g.line_is;
+        line_low = g.low;
         no_nodes_lem = g.no_nodes_lem;
       }
 
-  -- a line that is refused has a byte, so there was one more to read
-  pub setting_refused : (step : Step) (later : Stones) (v : Verdict) → StepKept b body here g.set_up step later → step ≡ Step.Refused v
-      → read_set_up (length body) b [] body ≡ refused v
-  setting_refused step later v k e =
-      let s : StoneRefused b body here g.set_up v = subst (λ (z : Step). StepKept b body here g.set_up z later) e k in
-      g.same ∙ go s g.most g.enough
-    where
-      go : StoneRefused b body here g.set_up v → (most : ℕ) → length body ≤ most + here.at → read_set_up most b g.set_up (drop here.at body) ≡ refused v
-      go s zero h = absurd (omega (arith, h, s.begun))
-      go s (suc m) h = set_up_refused m b g.set_up (drop here.at body) (s.said, s.left) s.line_read v s.not_down
+  pub setting_refused : (v : Verdict) → StoneRefused b here g.set_up v → read_set_up (length body) b [] body ≡ refused v
+  setting_refused v s =
+      let m = some_left g.most g.enough s.begun in
+      g.same ∙ ap (λ (z : ℕ). read_set_up z b g.set_up here.text.now) m.1
+      ∙ set_up_refused m.0 b g.set_up here.text.now (s.said, s.left) s.line_read v s.not_down

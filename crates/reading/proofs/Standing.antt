@@ -1,12 +1,9 @@
 -- Storing and reading come to the same: where rules reads a node, the table holds it; where rules refuses, the code does.
 use mathlib.Core.Path.{◌≡◌, refl, ap, ◌∙◌, subst, subst⁻¹}
-use Prim.Native.Nat.{ℕ, zero, suc, ◌+◌, ◌≤◌, ◌<◌}
+use Prim.Native.Nat.{ℕ, zero, suc, ◌+◌, ◌*◌, ◌≤◌, ◌<◌}
 use native.Mathlib.Omega.{arith}
 use mathlib.Core.List.{List, [], ◌∷◌}
-use mathlib.Core.Bool.{Bool, true, false}
-use lib.ListN.{length}
-use lib.Dec.{ltb}
-use borrow.Author.Tests.{ltb-true, ltb-false}
+use lib.ListN.{length, set, length-set}
 use Rattle.rules.specs.Sizes.{most_nodes, least_workspace}
 use Rattle.rules.specs.Text.{Reader}
 use Rattle.rules.specs.Lines.{Line, wait_line, move_line, reader_of, kind_under}
@@ -22,7 +19,6 @@ use Rattle.nodes.proofs.Table.{Agree, agree_within, agree_then, row_agree, stand
 use Rattle.rules.specs.declared.LineKind.{LineKind}
 use Rattle.rules.specs.declared.LineKind.TheVariants as K
 use Rattle.reading.specs.Storing.{Stored, store_all, store_under, store_node}
-use Rattle.reading.proofs.Storing.{length_node}
 
 -- there is room in the table for the nodes that the reading may still give
 pub record Fine (s : Spot) (t : List ℕ) : Type 0 where
@@ -136,11 +132,11 @@ moves_of (m ∷ ms) = ap (node m.cell (nodes_of_waits m.waits)) (moves_of ms)
 
 -- a node that was read was not one too many
 not_last : {b : Board} {r : Reader Line} {levels : ℕ} {s : Spot} {n : Node} {u : Spot} {t : List ℕ} → NodeRead b r levels s n u → Fine s t → s.nodes < most_nodes
-not_last {s = s} h f = go (ltb s.nodes most_nodes) refl
-  where
-    go : (t : Bool) → ltb s.nodes most_nodes ≡ t → s.nodes < most_nodes
-    go true e = ltb-true s.nodes most_nodes e
-    go false e = absurd (h.not_full (omega (arith, ltb-false s.nodes most_nodes e, f.few)))
+not_last h f = omega (arith, h.not_full, f.few)
+
+-- the table keeps its length
+length_node : (t : List ℕ) (i c n : ℕ) → length (with_node t i c n) ≡ length t
+length_node t i c n = length-set (set t (4 * i + 1) n) (4 * i) c ∙ length-set t (4 * i + 1) n
 
 -- the spot after the line is fine, with the line stored
 line_fine : {b : Board} {r : Reader Line} {levels : ℕ} {s : Spot} {n : Node} {u : Spot} {t : List ℕ} → NodeRead b r levels s n u → Fine s t

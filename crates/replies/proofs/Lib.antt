@@ -1,8 +1,8 @@
 -- The laws that belong to no one function.
+pub mod Looking
+pub mod Laid
 pub mod Replying
 pub mod Gathering
 pub mod Moving
-pub mod Laid
-pub mod Samples
 pub mod OneReply
-pub mod Looking
+pub mod Samples

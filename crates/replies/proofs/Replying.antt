@@ -1,11 +1,11 @@
 -- A reply's line, written part by part, is the reply that is defined.
 use mathlib.Core.Path.{◌≡◌, refl, sym, ap, subst, ◌∙◌}
-use Prim.Native.Nat.{ℕ, ◌+◌, ◌*◌, ◌-◌, ◌≤◌}
+use Prim.Native.Nat.{ℕ, ◌+◌, ◌-◌, ◌≤◌}
 use mathlib.Core.Bool.{Bool, true, false}
 use mathlib.Core.List.{List, [], ◌∷◌, ◌++◌}
 use native.Mathlib.Omega.{arith}
-use lib.ListN.{length, get_or, take, drop, length-take}
-use lib.Seq.{length-take-le, get_or-take, take-add, take_at, drop_at}
+use lib.ListN.{length, get_or, take, drop}
+use lib.Seq.{length-take-le, take-add, take_at, drop_at}
 use Rattle.rules.specs.Words.{one_if}
 use Rattle.rules.specs.Text.{Bytes}
 use Rattle.rules.specs.Verdict.{told}
@@ -14,23 +14,14 @@ use Rattle.rules.specs.declared.Told.{Told}
 use Rattle.rules.specs.declared.Verdict.{Verdict}
 use Rattle.rules.specs.declared.Played.{Played}
 use Rattle.rules.specs.declared.Named.{Named}
+use Rattle.rules.proofs.Lists.{part_from}
 use Rattle.report.specs.All.{all_numbers}
 use Rattle.report.specs.Line.{line_of, report_line}
 use Rattle.report.specs.Writing.{Wrote}
 use Rattle.report.proofs.Line.{wrote_judge}
-use Rattle.requests.specs.Request.{RequestOf}
-use Rattle.requests.proofs.Reading.{count_within, play_counted}
 use Rattle.requests.specs.declared.Ask.{Ask}
 use Rattle.requests.specs.declared.Request.{Request}
 use Rattle.replies.specs.Reply.{told_line, verdict_line, play_line, outcome_line, reply_of}
-
--- the first n numbers are n at most
-pub take_short : (n m : ℕ) (l : List ℕ) → n ≤ m → length (take n l) ≤ m
-take_short n m l h = omega (arith, length-take n l)
-
--- a reply with six further numbers at most and a thousand that are listed has its place
-pub reply_fits : (n : ℕ) (l : List ℕ) (at further : ℕ) {size : ℕ} → at + 11077 ≤ size → n ≤ 1000 → further ≤ 66 → at + further + 11 * length (take n l) + 11 ≤ size
-reply_fits n l at further h k m = omega (arith, length-take n l)
 
 -- what is listed stands first in the room
 listed_first : (xs room later : List ℕ) → later ≡ room_after xs room → take (length xs) later ≡ xs
@@ -84,24 +75,16 @@ later_numbers i n l h k =
     ap (λ (m : ℕ). drop i (take m l)) (sym sum) ∙ ap (drop i) (take-add i (n - i) l) ∙ drop_at (take i l) (take (n - i) (drop i l)) i (length-take-le i l (omega arith))
 
 -- the reply to a request by what it asks, with as much memory lent as it says
-module _ {r : Request} (numbers : List ℕ) (t : Bytes) {replies : Bytes} {at : ℕ} {replies' : Bytes} {end : ℕ} (workspace : List ℕ) (h : RequestOf (take r.count numbers) r) (lent : r.work ≤ length workspace) where
-  pub replied_judge : (all : Bool) → r.ask ≡ Ask.Judge all → Wrote (verdict_line all (length (take r.work workspace)) t) replies at replies' end
-      → Wrote (reply_of r (take r.count numbers) t) replies at replies' end
+module _ (r : Request) (ns : List ℕ) (t : Bytes) {replies : Bytes} {at : ℕ} {replies' : Bytes} {end w : ℕ} (lent : w ≡ r.work) where
+  pub replied_judge : (all : Bool) → r.ask ≡ Ask.Judge all → Wrote (verdict_line all w t) replies at replies' end → Wrote (reply_of r ns t) replies at replies' end
   unfolding reply_of
-  replied_judge all e w = rw e (judge_as t (length-take-le r.work workspace lent) all w)
+  replied_judge all e h = rw e (judge_as t lent all h)
 
-  module _ (room : List ℕ) (fits : r.room ≤ length room) where
-    pub replied_play : r.ask ≡ Ask.Play → Wrote (play_line (length (take r.work workspace)) t (take (r.count - 3) (drop 3 numbers)) (length (take r.room room))) replies at replies' end
-        → Wrote (reply_of r (take r.count numbers) t) replies at replies' end
+  module _ {room : ℕ} (fits : room ≡ r.room) where
+    pub replied_play : r.ask ≡ Ask.Play → Wrote (play_line w t (take (length ns - 3) (drop 3 ns)) room) replies at replies' end → Wrote (reply_of r ns t) replies at replies' end
     unfolding reply_of
-    replied_play e w =
-        let moves = later_numbers 3 r.count numbers (play_counted r.count h.counted e) (count_within numbers h) in
-        rw (e, moves) (play_as t (length-take-le r.work workspace lent) (length-take-le r.room room fits) _ w)
+    replied_play e h = rw (e, ← part_from ns 3) (play_as t lent fits _ h)
 
-    pub replied_outcome : r.ask ≡ Ask.Outcome → Wrote (outcome_line (length (take r.work workspace)) t (get_or numbers 3 0) (length (take r.room room))) replies at replies' end
-        → Wrote (reply_of r (take r.count numbers) t) replies at replies' end
+    pub replied_outcome : r.ask ≡ Ask.Outcome → Wrote (outcome_line w t (get_or ns 3 0) room) replies at replies' end → Wrote (reply_of r ns t) replies at replies' end
     unfolding reply_of
-    replied_outcome e w =
-        let four : r.count ≡ 4 = rw e at h.counted in
-        let number = get_or-take r.count numbers 3 0 (omega arith) in
-        rw (e, number) (outcome_as t (length-take-le r.work workspace lent) (length-take-le r.room room fits) _ w)
+    replied_outcome e h = rw e (outcome_as t lent fits _ h)

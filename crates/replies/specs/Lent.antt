@@ -1,22 +1,22 @@
--- The lent memory: as it is filled before a request, and as document 01 lays it down afterwards.
-use Rattle.std.specs.Prelude.{◌≡◌, List, ℕ, ◌<◌, ◌≤◌, length, get_or}
+-- The lent memory: as it is filled before a request, and as the entries are to leave it.
+use Rattle.std.specs.Prelude.{◌≡◌, List, ℕ, ◌<◌, ◌≤◌, length, replicate, take, drop}
 
--- the numbers from a place up to another are all the same value
-pub record AllAre (value : ℕ) (l : List ℕ) (from to : ℕ) : Type 0 where
-  pub each : (j : ℕ) → from ≤ j → j < to → get_or l j 0 ≡ value
+-- all numbers of a list are the value
+abbrev pub AllAre : ℕ → List ℕ → Type 0
+AllAre value l = l ≡ replicate (length l) value
 
--- the numbers from place n on are the filling, all of whose bits are 1
-abbrev pub FilledFrom : ℕ → List ℕ → Type 0
-FilledFrom n l = AllAre 4294967295 l n (length l)
+-- the numbers are the filling, all of whose bits are 1
+abbrev pub Filled : List ℕ → Type 0
+Filled l = AllAre 4294967295 l
 
 -- a workspace that was filled: fewer than 8,192 numbers are unchanged, otherwise the first 8,192 are 0 and the others unchanged
 pub record WorkspaceLaid (l : List ℕ) : Type 0 where
-  pub unchanged : length l < 8192 → FilledFrom 0 l
-  pub cleared : 8192 ≤ length l → AllAre 0 l 0 8192
-  pub others : 8192 ≤ length l → FilledFrom 8192 l
+  pub unchanged : length l < 8192 → Filled l
+  pub cleared : 8192 ≤ length l → AllAre 0 (take 8192 l)
+  pub others : 8192 ≤ length l → Filled (drop 8192 l)
 
 -- a room that was filled: so many first places are written, and none on a refusal
 pub record RoomLaid (number written : ℕ) (l : List ℕ) : Type 0 where
   pub there : written ≤ length l
-  pub others : FilledFrom written l
+  pub others : Filled (drop written l)
   pub refused : ¬ (number ≡ 0) → written ≡ 0

@@ -1,344 +1,168 @@
 // The replies: a request is answered with memory that is lent to the entries, and the requests of some bytes one after another.
-ghost use Rattle.std.specs.Prelude.{◌≡◌, true, ◌+◌, ◌<◌, ◌≤◌, length, take};
-ghost use Rattle.report.specs.Writing.{Wrote};
+ghost use Rattle.std.specs.Prelude.{◌≡◌, true, ◌+◌, ◌≤◌, length, take};
 ghost use Rattle.requests.specs.Request.{RequestOf};
-ghost use Rattle.requests.specs.Sent.{WholeIn};
 ghost use Rattle.replies.specs.Reply.{verdict_line, play_line, outcome_line, reply_of};
-ghost use Rattle.replies.specs.Answers.{Replies, AnswerOf, gathered_as, GatheredFrom};
-ghost use Rattle.replies.specs.Lent.{FilledFrom};
+ghost use Rattle.replies.specs.Answers.{Says, Replies, AnswerOf, GatheredFrom};
 
-use crate::lent::{fill, lent_right, workspace_right};
+use crate::lent::{FILLING, Memory, lent_right, workspace_right};
 use crate::print;
-use report::{one_if, report, tell, tell_all, write_line};
-use requests::{Ask, Request, RequestFound, find};
+use crate::written::{MOST_SAID, Said};
+use report::{report, tell_all, write_line};
+use requests::{Ask, Found, Request, Unfound, find};
+use rules::Told;
 use sheet::{judge, outcome, play};
 use std::io::Stdout;
 
-// Prints the replies that were gathered, and says that the memory that was lent is not what document 01 lays down. It asks that the memory
-// is right and is called only where it is not, so it is proved that it never comes to that.
-fn say_memory(out: Stdout, right: bool, replies: &[u8], at: usize) -> usize
-    requires never { right ≡ true }
-    requires said { (at ≤ length replies.now) × Replies (take at replies.now) }
-    ensures { result ≡ 0 }
-{
-    let _ = print(out, replies, at);
-    let _ = out.write_all(b"memory\n");
-    0
-}
-
-// The most bytes of a reply's line: seven numbers and a thousand more, each of ten digits and followed by a tab or the line feed.
+// The most bytes of a reply's line: seven numbers and a thousand more, each of ten digits and followed by a tab or the line feed. (That a
+// reply fits is not true of all `Said`, so each function that writes one asks it.)
 const MOST_REPLY: usize = 11077;
 
-// A count as a number of 32 bits.
-fn narrow(n: usize) -> u32
-    requires { n < 4294967296 }
-    ensures { result ≡ n }
+// Prints the replies that were gathered, and says that the memory that was lent is not as the entries leave it. It asks that the memory
+// is right and is called only where it is not, so it is proved that it never comes to that.
+fn say_memory(out: Stdout, right: bool, said: &[u8])
+    requires never { right ≡ true }
+    requires said { Replies said.now }
 {
-    n as u32
+    let _ = print(out, said);
+    let _ = out.write_all(b"memory\n");
 }
 
-// Judges the sheet with a workspace that was filled, and writes the reply: the judging program's line, or all counts.
-fn write_judge(
-    out: Stdout,
-    text: &[u8],
-    workspace: &mut [u32],
-    all: bool,
-    replies: &mut [u8],
-    at: usize,
-) -> usize
-    requires { FilledFrom 0 workspace.old × (at + 11077 ≤ length replies.old) }
-    ensures { Wrote (verdict_line all (length workspace.old) text.now) replies.old at replies.new result }
+// Judges the sheet, and writes the reply: the judging program's line, or all counts.
+fn answer_judge(out: Stdout, text: &[u8], all: bool, workspace: &mut [u32], said: &mut Said)
+    requires { said.old.end + 11077 ≤ 32768 }
+    ensures { Says (verdict_line all (length workspace.old) text.now) said.old said.new }
 {
+    workspace.fill(FILLING);
     let verdict = judge(text, workspace);
     let right = workspace_right(workspace);
     if !right {
-        return say_memory(out, right, replies, at);
+        return say_memory(out, right, said.replies());
     }
     if !all {
-        return report(replies, at, verdict);
+        said.end = report(&mut said.bytes, said.end, verdict);
+        return;
     }
     let told = tell_all(verdict);
-    let number = told[0];
-    write_line(replies, at, number, &told[1..], &[])
+    said.end = write_line(&mut said.bytes, said.end, told[0], &told[1..], &[]);
 }
 
-// Plays the cells on the sheet with memory that was filled, and writes the reply.
-fn write_play(
-    out: Stdout,
-    text: &[u8],
-    moves: &[u32],
-    room: &mut [u32],
-    workspace: &mut [u32],
-    replies: &mut [u8],
-    at: usize,
-) -> usize
-    requires filled { (length room.old ≤ 1000) × FilledFrom 0 room.old × FilledFrom 0 workspace.old }
-    requires place { at + 11077 ≤ length replies.old }
-    ensures { Wrote (play_line (length workspace.old) text.now moves.now (length room.old)) replies.old at replies.new result }
-{
-    let played = play(text, moves, room, workspace);
-    let verdict = played.verdict;
-    let told = tell(verdict);
-    let answers = played.answers;
-    let right = lent_right(workspace, room, told.number, answers);
-    if !right {
-        return say_memory(out, right, replies, at);
-    }
-    let others = [
-        told.line,
-        told.cell,
-        told.index,
-        narrow(played.place),
-        narrow(answers),
-        one_if(played.over),
-    ];
-    write_line(replies, at, told.number, &others, &room[..answers])
-}
-
-// Names the outcome of the sheet with a number with memory that was filled, and writes the reply.
-fn write_outcome(
-    out: Stdout,
-    text: &[u8],
-    number: u32,
-    room: &mut [u32],
-    workspace: &mut [u32],
-    replies: &mut [u8],
-    at: usize,
-) -> usize
-    requires filled { (length room.old ≤ 1000) × FilledFrom 0 room.old × FilledFrom 0 workspace.old }
-    requires place { at + 11077 ≤ length replies.old }
-    ensures { Wrote (outcome_line (length workspace.old) text.now number (length room.old)) replies.old at replies.new result }
-{
-    let named = outcome(text, number, room, workspace);
-    let verdict = named.verdict;
-    let told = tell(verdict);
-    let cells = named.cells;
-    let right = lent_right(workspace, room, told.number, cells);
-    if !right {
-        return say_memory(out, right, replies, at);
-    }
-    let others = [told.line, told.cell, told.index, narrow(cells)];
-    write_line(replies, at, told.number, &others, &room[..cells])
-}
-
-// Fills the lent memory, and judges the sheet.
-fn answer_judge(
-    out: Stdout,
-    text: &[u8],
-    workspace: &mut [u32],
-    all: bool,
-    replies: &mut [u8],
-    at: usize,
-) -> usize
-    requires { at + 11077 ≤ length replies.old }
-    ensures { Wrote (verdict_line all (length workspace.old) text.now) replies.old at replies.new result }
-{
-    fill(workspace);
-    write_judge(out, text, workspace, all, replies, at)
-}
-
-// Fills the lent memory, and plays the cells.
+// Plays the cells on the sheet, and writes the reply.
 fn answer_play(
     out: Stdout,
     text: &[u8],
     moves: &[u32],
     room: &mut [u32],
     workspace: &mut [u32],
-    replies: &mut [u8],
-    at: usize,
-) -> usize
-    requires { (length room.old ≤ 1000) × (at + 11077 ≤ length replies.old) }
-    ensures { Wrote (play_line (length workspace.old) text.now moves.now (length room.old)) replies.old at replies.new result }
+    said: &mut Said,
+)
+    requires { (length room.old ≤ 1000) × (said.old.end + 11077 ≤ 32768) }
+    ensures { Says (play_line (length workspace.old) text.now moves.now (length room.old)) said.old said.new }
 {
-    fill(workspace);
-    fill(room);
-    write_play(out, text, moves, room, workspace, replies, at)
+    workspace.fill(FILLING);
+    room.fill(FILLING);
+    let played = play(text, moves, room, workspace);
+    let told = Told::from(played.verdict);
+    let right = lent_right(workspace, room, told.number, played.answers);
+    if !right {
+        return say_memory(out, right, said.replies());
+    }
+    let others = [
+        told.line,
+        told.cell,
+        told.index,
+        played.place as u32,
+        played.answers as u32,
+        u32::from(played.over),
+    ];
+    let answers = &room[..played.answers];
+    said.end = write_line(&mut said.bytes, said.end, told.number, &others, answers);
 }
 
-// Fills the lent memory, and names the outcome.
+// Names the outcome of the sheet with a number, and writes the reply. (One function for play and outcome would need a contract for the
+// call that is handed in, longer than what the two share.)
 fn answer_outcome(
     out: Stdout,
     text: &[u8],
     number: u32,
     room: &mut [u32],
     workspace: &mut [u32],
-    replies: &mut [u8],
-    at: usize,
-) -> usize
-    requires { (length room.old ≤ 1000) × (at + 11077 ≤ length replies.old) }
-    ensures { Wrote (outcome_line (length workspace.old) text.now number (length room.old)) replies.old at replies.new result }
+    said: &mut Said,
+)
+    requires { (length room.old ≤ 1000) × (said.old.end + 11077 ≤ 32768) }
+    ensures { Says (outcome_line (length workspace.old) text.now number (length room.old)) said.old said.new }
 {
-    fill(workspace);
-    fill(room);
-    write_outcome(out, text, number, room, workspace, replies, at)
+    workspace.fill(FILLING);
+    room.fill(FILLING);
+    let named = outcome(text, number, room, workspace);
+    let told = Told::from(named.verdict);
+    let right = lent_right(workspace, room, told.number, named.cells);
+    if !right {
+        return say_memory(out, right, said.replies());
+    }
+    let others = [told.line, told.cell, told.index, named.cells as u32];
+    let cells = &room[..named.cells];
+    said.end = write_line(&mut said.bytes, said.end, told.number, &others, cells);
 }
 
-// Answers a request about a sheet, with as much memory lent as it says, and returns the place after the reply.
-fn answer_lent(
-    out: Stdout,
-    text: &[u8],
-    request: Request,
-    numbers: &[u32],
-    workspace: &mut [u32],
-    room: &mut [u32],
-    replies: &mut [u8],
-    at: usize,
-) -> usize
-    requires asked { (RequestOf (take request.count numbers.now) request) × (length numbers.now ≡ 403) }
-    requires lent { (length workspace.old ≡ 9000) × (length room.old ≡ 1000) }
-    requires place { at + 11077 ≤ length replies.old }
-    ensures { Wrote (reply_of request (take request.count numbers.now) text.now) replies.old at replies.new result }
+// Answers a request about a sheet, with as much memory lent as it says.
+fn answer(out: Stdout, text: &[u8], request: Request, memory: &mut Memory, said: &mut Said)
+    requires asked { RequestOf (take request.count memory.old.numbers) request }
+    requires place { said.old.end + 11077 ≤ 32768 }
+    ensures { Says (reply_of request (take request.count memory.old.numbers) text.now) said.old said.new }
 {
     let ask = request.ask;
-    let count = request.count;
-    let work = request.work;
-    let lent = request.room;
+    let numbers = &memory.numbers[..request.count];
+    let (workspace, _) = memory.workspace.split_at_mut(request.work);
+    let (room, _) = memory.room.split_at_mut(request.room);
     match ask {
-        Ask::Judge { all } => answer_judge(out, text, &mut workspace[..work], all, replies, at),
-        Ask::Play => answer_play(
-            out,
-            text,
-            &numbers[3..count],
-            &mut room[..lent],
-            &mut workspace[..work],
-            replies,
-            at,
-        ),
-        Ask::Outcome => answer_outcome(
-            out,
-            text,
-            numbers[3],
-            &mut room[..lent],
-            &mut workspace[..work],
-            replies,
-            at,
-        ),
+        Ask::Judge { all } => answer_judge(out, text, all, workspace, said),
+        Ask::Play => answer_play(out, text, &numbers[3..], room, workspace, said),
+        Ask::Outcome => answer_outcome(out, text, numbers[3], room, workspace, said),
     }
 }
 
-// What came of the first request of some bytes: it was answered, with the places after the request and after the reply; or the bytes end
-// in it; or it is malformed.
-#[derive(Clone, Copy)]
-enum FirstReply {
-    Got { next: usize, end: usize },
-    Partial,
-    Malformed,
-}
-
-// Answers the request whose text begins at a place of the bytes.
-fn answer_whole(
-    out: Stdout,
-    bytes: &[u8],
-    text: usize,
-    request: Request,
-    numbers: &[u32],
-    workspace: &mut [u32],
-    room: &mut [u32],
-    replies: &mut [u8],
-    at: usize,
-) -> FirstReply
-    requires asked { (WholeIn bytes.now numbers.now request text) × (length numbers.now ≡ 403) }
-    requires lent { (length workspace.old ≡ 9000) × (length room.old ≡ 1000) }
-    requires place { at + 11077 ≤ length replies.old }
-    ensures { AnswerOf bytes.now replies.old at replies.new result }
-{
-    let next = text + request.bytes;
-    let end = answer_lent(
-        out,
-        &bytes[text..next],
-        request,
-        numbers,
-        workspace,
-        room,
-        replies,
-        at,
-    );
-    FirstReply::Got { next, end }
-}
-
-// Answers the first request of the bytes.
+// Answers the first request of the bytes, and returns the place after it.
 fn answer_first(
     out: Stdout,
     bytes: &[u8],
-    numbers: &mut [u32],
-    workspace: &mut [u32],
-    room: &mut [u32],
-    replies: &mut [u8],
-    at: usize,
-) -> FirstReply
-    requires lent { (length numbers.old ≡ 403) × (length workspace.old ≡ 9000) × (length room.old ≡ 1000) }
-    requires place { at + 11077 ≤ length replies.old }
-    ensures { AnswerOf bytes.now replies.old at replies.new result }
+    memory: &mut Memory,
+    said: &mut Said,
+) -> Result<usize, Unfound>
+    requires { said.old.end + 11077 ≤ 32768 }
+    ensures { AnswerOf bytes.now said.old said.new result }
 {
-    let found = find(bytes, numbers);
-    match found {
-        RequestFound::Partial => FirstReply::Partial,
-        RequestFound::Malformed => FirstReply::Malformed,
-        RequestFound::Whole { request, text } => answer_whole(
-            out, bytes, text, request, numbers, workspace, room, replies, at,
-        ),
-    }
+    let Found { request, text } = find(bytes, &mut memory.numbers)?;
+    let next = text + request.bytes;
+    answer(out, &bytes[text..next], request, memory, said);
+    Ok(next)
 }
 
-// Why no further request of some bytes was answered: none of them is left whole, or the next is malformed, or its reply may not fit.
-#[derive(Clone, Copy)]
-pub enum Ending {
-    Partial,
-    Malformed,
-    Full,
-}
-
-// How many bytes were taken by requests, how many their replies have, and why there are no more.
+// How many bytes were taken by requests, and why there are no more: the next is not found, or its reply may not fit.
 #[derive(Clone, Copy)]
 pub struct Gathered {
     pub taken: usize,
-    pub said: usize,
-    pub ending: Ending,
-}
-
-// What was taken and said so far, and why there is no more.
-fn so_far(taken: usize, said: usize, ending: Ending) -> Gathered
-    ensures { result ≡ gathered_as taken said ending }
-{
-    Gathered {
-        taken,
-        said,
-        ending,
-    }
+    pub unfound: Option<Unfound>,
 }
 
 // Answers the requests of the bytes, one after another.
-pub fn gather(
-    out: Stdout,
-    bytes: &[u8],
-    numbers: &mut [u32],
-    workspace: &mut [u32],
-    room: &mut [u32],
-    replies: &mut [u8],
-) -> Gathered
-    requires { (length numbers.old ≡ 403) × (length workspace.old ≡ 9000) × (length room.old ≡ 1000) }
-    ensures { GatheredFrom bytes.now replies.new result }
+pub fn gather(out: Stdout, bytes: &[u8], memory: &mut Memory, said: &mut Said) -> Gathered
+    ensures { GatheredFrom bytes.now said.new result }
 {
     let mut taken = 0;
-    let mut said = 0;
-    while MOST_REPLY <= replies.len() - said {
-        let answer = answer_first(
-            out,
-            &bytes[taken..],
-            numbers,
-            workspace,
-            room,
-            replies,
-            said,
-        );
-        match answer {
-            FirstReply::Partial => return so_far(taken, said, Ending::Partial),
-            FirstReply::Malformed => return so_far(taken, said, Ending::Malformed),
-            FirstReply::Got { next, end } => {
-                taken += next;
-                said = end;
+    said.end = 0;
+    while MOST_REPLY <= MOST_SAID - said.end {
+        match answer_first(out, &bytes[taken..], memory, said) {
+            Ok(next) => taken += next,
+            Err(unfound) => {
+                return Gathered {
+                    taken,
+                    unfound: Some(unfound),
+                };
             }
         }
     }
-    so_far(taken, said, Ending::Full)
+    Gathered {
+        taken,
+        unfound: None,
+    }
 }

@@ -1,69 +1,54 @@
-// The memory that is lent for a request: filling it, and looking whether it was left as document 01 lays down.
-ghost use Rattle.std.specs.Prelude.{◌≡◌, true, ◌≤◌, length};
-ghost use Rattle.replies.specs.Lent.{AllAre, FilledFrom, WorkspaceLaid, RoomLaid};
+// The memory that is lent for a request: filling it, and looking whether it was left as the entries promise.
+ghost use Rattle.std.specs.Prelude.{Decides};
+ghost use Rattle.replies.specs.Lent.{AllAre, WorkspaceLaid, RoomLaid};
+
+use requests::{MOST_NUMBERS, MOST_ROOM, MOST_WORK};
 
 // What stands in every place of the memory that is lent, so that each change shows: all bits 1, and no number of a sheet is so large.
-const FILLING: u32 = 4294967295;
+pub const FILLING: u32 = 4294967295;
 
-// Fills the memory that is lent.
-pub fn fill(memory: &mut [u32])
-    ensures { FilledFrom 0 memory.new }
-{
-    let mut i = 0;
-    while i < memory.len() {
-        memory[i] = FILLING;
-        i += 1;
-    }
+// The memory for requests: places for a request's numbers, the workspace and the room, of which as much is lent as the request says.
+#[derive(Drop)]
+pub struct Memory {
+    pub numbers: [u32; MOST_NUMBERS],
+    pub workspace: [u32; MOST_WORK],
+    pub room: [u32; MOST_ROOM],
 }
 
-// Whether the numbers from a place up to another are all the same value: no bit of any is another.
-fn all_are(value: u32, memory: &[u32], from: usize, to: usize) -> bool
-    requires { to ≤ length memory.now }
-    ensures { (AllAre value memory.now from to → result ≡ true) × (result ≡ true → AllAre value memory.now from to) }
+// Whether the numbers are all the same value: no bit of any is another.
+fn all_are(value: u32, memory: &[u32]) -> bool
+    ensures { Decides result (AllAre value memory.now) }
 {
-    let mut others: u32 = 0;
-    let mut i = from;
-    while i < to {
-        others |= memory[i] ^ value;
-        i += 1;
-    }
-    others == 0
+    // A fold, and no `all`, which stops at the first other number and took three times as long where there is none.
+    memory
+        .iter()
+        .fold(0, |others, &number| others | (number ^ value))
+        == 0
 }
 
-// Whether the workspace is what document 01 lays down: fewer than 8,192 numbers are refused with 1.
+// Whether the workspace is as the entries leave it: fewer than 8,192 numbers are refused with 1.
 pub fn workspace_right(workspace: &[u32]) -> bool
-    ensures { (WorkspaceLaid workspace.now → result ≡ true) × (result ≡ true → WorkspaceLaid workspace.now) }
+    ensures { Decides result (WorkspaceLaid workspace.now) }
 {
     if workspace.len() < 8192 {
-        return all_are(FILLING, workspace, 0, workspace.len());
+        return all_are(FILLING, workspace);
     }
-    if !all_are(0, workspace, 0, 8192) {
-        return false;
-    }
-    all_are(FILLING, workspace, 8192, workspace.len())
+    all_are(0, &workspace[..8192]) && all_are(FILLING, &workspace[8192..])
 }
 
-// Whether the room is what document 01 lays down after a reply with the number and so many answers or cells.
+// Whether the room is as the entries leave it after a reply with the number, 0 where it is done, and so many answers or cells.
 fn room_right(room: &[u32], number: u32, written: usize) -> bool
-    ensures { (RoomLaid number written room.now → result ≡ true) × (result ≡ true → RoomLaid number written room.now) }
+    ensures { Decides result (RoomLaid number written room.now) }
 {
-    if room.len() < written {
+    if room.len() < written || number != 0 && written != 0 {
         return false;
     }
-    if number != 0 {
-        if written != 0 {
-            return false;
-        }
-    }
-    all_are(FILLING, room, written, room.len())
+    all_are(FILLING, &room[written..])
 }
 
-// Whether all memory that was lent is what document 01 lays down after a reply with the number and so many answers or cells.
+// Whether all memory that was lent is as the entries leave it after a reply with the number and so many answers or cells.
 pub fn lent_right(workspace: &[u32], room: &[u32], number: u32, written: usize) -> bool
-    ensures { (WorkspaceLaid workspace.now → RoomLaid number written room.now → result ≡ true) × (result ≡ true → WorkspaceLaid workspace.now × RoomLaid number written room.now) }
+    ensures { Decides result (WorkspaceLaid workspace.now × RoomLaid number written room.now) }
 {
-    if !workspace_right(workspace) {
-        return false;
-    }
-    room_right(room, number, written)
+    workspace_right(workspace) && room_right(room, number, written)
 }

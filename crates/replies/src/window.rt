@@ -1,97 +1,58 @@
-// The window: the bytes of the buffer that were read and not yet taken, and the reading of more behind them.
-ghost use Rattle.std.specs.Prelude.{◌≡◌, ◌+◌, ◌<◌, ◌≤◌, length, IfOk, OnErr};
-ghost use Rattle.replies.specs.Window.{Within, Moved, PlaceBehind, ReadOn, StillThere};
+// The window: the bytes of the input that were read and not yet taken, and the reading of more behind them.
+ghost use Rattle.std.specs.Prelude.{◌≤◌};
 
 use crate::say_request;
 use std::io::{self, Read, Stdin, Stdout};
 
-// The bytes of the buffer that were read and not yet taken: from start up to end.
-#[derive(Clone, Copy)]
+// The most bytes of the input that are held, which is more than a request has.
+pub const MOST_HELD: usize = 131072;
+
+// The bytes of the input that were read and not yet taken: those of the buffer from start up to end. (A buffer of a fixed size and two
+// places in it: nothing is allocated.)
+#[derive(Drop)]
 pub struct Window {
+    pub buffer: [u8; MOST_HELD],
     pub start: usize,
     pub end: usize,
+    pub ghost within: { (start ≤ end) × (end ≤ 131072) },
 }
 
-// Whether requests go on, and with which window.
-#[derive(Clone, Copy)]
-pub enum NextWindow {
-    On { window: Window },
-    Last,
-}
+impl Window {
+    ghost use Rattle.std.specs.Prelude.{◌≡◌, ◌+◌, ◌-◌, ◌<◌};
+    ghost use Rattle.replies.specs.Window.{bytes_of, PlaceBehind, ReadBehind};
 
-// Moves the bytes of the window to the front of the buffer.
-fn to_front(buffer: &mut [u8], window: Window) -> Window
-    requires { Within buffer.old window }
-    ensures { (Moved buffer.old window buffer.new result) × (result.start ≡ 0) }
-{
-    let start = window.start;
-    let left = window.end - start;
-    let mut i = 0;
-    while i < left {
-        buffer[i] = buffer[start + i];
-        i += 1;
+    // Moves its bytes to the front of the buffer: `copy_within`, and its places.
+    fn to_front(&mut self)
+        ensures same { bytes_of self.new ≡ bytes_of self.old }
+        ensures front { (self.new.start ≡ 0) × (self.new.end ≡ self.old.end - self.old.start) }
+    {
+        self.buffer.copy_within(self.start..self.end, 0);
+        self.end -= self.start;
+        self.start = 0;
     }
-    Window {
-        start: 0,
-        end: left,
-    }
-}
 
-// The window, moved to the front where the buffer has no place behind it, or where it is empty.
-fn with_place(buffer: &mut [u8], window: Window) -> Window
-    requires { (Within buffer.old window) × (window.end < window.start + length buffer.old) }
-    ensures { PlaceBehind buffer.old window buffer.new result }
-{
-    if window.start == window.end {
-        return Window { start: 0, end: 0 };
+    // Moves its bytes to the front where the buffer has no place behind them, or where there are none.
+    fn make_place(&mut self)
+        requires { self.old.end < self.old.start + 131072 }
+        ensures { PlaceBehind self.old self.new }
+    {
+        if self.start == self.end || self.end == MOST_HELD {
+            self.to_front();
+        }
     }
-    if window.end < buffer.len() {
-        return window;
-    }
-    to_front(buffer, window)
-}
 
-// Reads from standard input into the buffer once, and returns how many bytes came: none where the input has ended, since the buffer has
-// a place.
-fn refill(mut input: Stdin, buffer: &mut [u8]) -> io::Result<usize>
-    requires { 0 < length buffer.old }
-    ensures ok { IfOk result (λ n. n ≤ length buffer.new) }
-    ensures err { OnErr result (length buffer.new ≡ length buffer.old) }
-{
-    input.read(buffer)
-}
-
-// What the end of the input comes to: a request in which it ends is malformed.
-fn say_end(out: Stdout, window: Window) -> io::Result<()> {
-    if window.start < window.end {
-        return say_request(out);
+    // Reads from standard input once, behind its bytes, and returns whether anything came: nothing where the input has ended. A request
+    // in which it ends is malformed.
+    pub fn read_on(&mut self, mut input: Stdin, out: Stdout) -> io::Result<bool>
+        requires { self.old.end < self.old.start + 131072 }
+        ensures { ReadBehind self.old self.new }
+    {
+        self.make_place();
+        let got = input.read(&mut self.buffer[self.end..])?;
+        self.end += got;
+        if got == 0 && self.start < self.end {
+            say_request(out)?;
+        }
+        Ok(got != 0)
     }
-    Ok(())
-}
-
-// Reads more of the input behind the window.
-pub fn read_on(
-    input: Stdin,
-    out: Stdout,
-    buffer: &mut [u8],
-    window: Window,
-) -> io::Result<NextWindow>
-    requires { (Within buffer.old window) × (window.end < window.start + length buffer.old) }
-    ensures ok { IfOk result (λ next. ReadOn buffer.old window buffer.new next) }
-    ensures err { OnErr result (StillThere buffer.old window buffer.new) }
-{
-    let ready = with_place(buffer, window);
-    let start = ready.start;
-    let end = ready.end;
-    let got = refill(input, &mut buffer[end..])?;
-    if got == 0 {
-        say_end(out, ready)?;
-        return Ok(NextWindow::Last);
-    }
-    Ok(NextWindow::On {
-        window: Window {
-            start,
-            end: end + got,
-        },
-    })
 }

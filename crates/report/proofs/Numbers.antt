@@ -1,9 +1,12 @@
 -- Numbers written into a room, as the code writes them.
-use mathlib.Core.Path.{◌≡◌}
+use Rattle.std.specs.Int.{from_bool}
+use mathlib.Core.Bool.{Bool, true, false}
+use mathlib.Core.Path.{◌≡◌, refl}
 use Prim.Native.Nat.{ℕ, ◌+◌, ◌/◌, ◌%◌, ◌^◌, ◌<◌, ◌≤◌}
 use mathlib.Core.List.{[], ◌∷◌}
 use native.Mathlib.Omega.{arith}
 use lib.ListN.{length}
+use Rattle.rules.specs.Words.{one_if}
 use Rattle.rules.specs.Text.{Bytes}
 use Rattle.rules.specs.Decimal.{decimal}
 use Rattle.report.specs.Writing.{Wrote, WroteWithin}
@@ -30,3 +33,9 @@ pub number_high : {n d : ℕ} {room : Bytes} {at : ℕ} {room₁ : Bytes} {e₁ 
     → WroteWithin 10 (decimal n) room at room₂ e₂
 number_high {n} h l e v w =
     record { wrote = rw (decimal_high n l, ← e) (wrote_then v.wrote w); short = omega (arith, w.ends, tenth_short h v) }
+
+-- a test's answer as a number is 1 where it holds, else 0
+pub bool_one : (b : Bool) → from_bool b ≡ one_if b
+unfolding one_if
+bool_one true = refl
+bool_one false = refl

@@ -1,25 +1,19 @@
--- The fields of a line: where a field ends, and that a text begins with one field only.
+-- The fields of a line: a text begins with one field only.
 use mathlib.Core.Path.{◌≡◌, refl, sym, ap}
-use Prim.Native.Nat.{ℕ, ◌+◌, ◌-◌, ◌<◌}
+use Prim.Native.Nat.{ℕ}
 use mathlib.Core.List.{List, [], ◌∷◌, ◌++◌, append_assoc, append-nil}
-use native.Mathlib.Nat.{add-zero}
 use native.Mathlib.Omega.{arith}
-use lib.ListN.{length, get_or, take, drop, length-take, length-drop, take-append-drop}
-use lib.Seq.{drop-drop, get_or-take, get_or-drop}
+use lib.ListN.{length}
 use Rattle.rules.specs.Text.{Bytes}
 use Rattle.rules.specs.Decimal.{decimal}
 use Rattle.report.specs.Line.{fields}
 use Rattle.rules.proofs.Decimal.{Every, every_tail, every_so, decimal_digits}
 use Rattle.rules.proofs.ReadBack.{decimal_one}
-use Rattle.requests.specs.Request.{FieldEnd}
+use Rattle.requests.specs.Request.{Ends, FirstField}
 
 -- no byte of a field is a tab
 abbrev pub NoTab : Bytes → Type 0
 NoTab t = Every (λ (b : ℕ). ¬ (b ≡ 9)) t
-
--- what follows a field: nothing, or a tab and more
-pub record Ends (t : Bytes) : Type 0 where
-  pub stops : 0 < length t → get_or t 0 0 ≡ 9
 
 -- what follows a field is no field's beginning
 no_start : {t : Bytes} (b : ℕ) (c u : Bytes) → Ends t → NoTab (b ∷ c) → ¬ (t ≡ b ∷ u)
@@ -84,22 +78,6 @@ fields_one ns ms h = go o.rest o.splits o.reads
     go [] s r = rw append-nil at s
     go (n ∷ rest) s r = absurd (omega (arith, ap length r))
 
--- what follows the field that ends at a place of a line
-pub line_ends : (line : Bytes) (end : ℕ) → (end < length line → get_or line end 0 ≡ 9) → Ends (drop end line)
-line_ends line end e = record { stops = λ h. rw (get_or-drop end line 0 0, add-zero end) (e (omega (arith, length-drop end line))) }
-
-module _ {line : Bytes} {begin end : ℕ} (e : FieldEnd line begin end) where
-  -- the line from where the field begins on is the field and what follows it
-  pub field_split : drop begin line ≡ take (end - begin) (drop begin line) ++ drop end line
-  field_split =
-      let k : begin + (end - begin) ≡ end = omega (arith, e.on) in
-      sym (rw (drop-drop, k) at (take-append-drop (end - begin) (drop begin line)))
-
-  -- no byte of the field is a tab
-  pub field_no_tab : NoTab (take (end - begin) (drop begin line))
-  field_no_tab =
-      record {
-        each = λ j h.
-            let k : j < end - begin = omega (arith, length-take (end - begin) (drop begin line)) in
-            rw (get_or-take (end - begin) (drop begin line) j 0 k, get_or-drop begin line j 0) (e.next (begin + j) (omega arith) (omega arith));
-      }
+-- no byte of a text's first field is a tab
+pub field_no_tab : {text field rest : Bytes} → FirstField text field rest → NoTab field
+field_no_tab f = record { each = f.no_tab }

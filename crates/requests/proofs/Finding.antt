@@ -1,8 +1,9 @@
 -- The first request of some bytes: where its line ends, and when there is none.
+use Rattle.std.specs.Prelude.{Result, Ok, Err}
 use mathlib.Core.Path.{◌≡◌, refl, sym, ap, subst, ◌∙◌}
 use Prim.Native.Nat.{ℕ, ◌+◌, ◌-◌, ◌<◌, ◌≤◌}
 use mathlib.Core.List.{List, [], ◌∷◌, ◌++◌, append_assoc, append-nil}
-use mathlib.Core.Logic.{◌⊎◌, inl, inr, ⊎_elim}
+use mathlib.Core.Logic.{◌⊎◌, inl, inr}
 use native.Mathlib.Numerals.{add-one}
 use native.Mathlib.Nat.{eq-zero-or-pos}
 use native.Mathlib.Omega.{arith}
@@ -10,8 +11,9 @@ use lib.ListN.{length, get_or, take, drop, length-append, length-take, length-dr
 use lib.Seq.{append_snoc, get_or-append_seam, take-suc, take-add, take_at, take-append-le}
 use Rattle.rules.specs.Text.{Bytes}
 use Rattle.requests.specs.Request.{LineOf}
-use Rattle.requests.specs.Sent.{Sent, sent, NoneLies, NoneBegins, LineEnd, FirstLineEnd, WholeIn, PartialIn, in_line, in_text, MalformedIn, no_request, too_long, FoundIn}
-use Rattle.requests.specs.declared.RequestFound.{RequestFound}
+use Rattle.requests.specs.Sent.{Sent, sent, NoneLies, NoneBegins, FirstLineEnd, WholeIn, PartialIn, in_line, in_text, MalformedIn, no_request, too_long, UnfoundIn, FoundIn}
+use Rattle.requests.specs.declared.Found.{Found}
+use Rattle.requests.specs.declared.Unfound.{Unfound}
 use Rattle.requests.specs.declared.Request.{Request}
 use Rattle.requests.proofs.Reading.{line_one, line_short, line_no_feed}
 
@@ -41,28 +43,10 @@ module _ (bytes after rest : Bytes) (s : Sent) (begins : bytes ++ after ≡ sent
   same_line {end} l = by_place (eq-zero-or-pos (length s.line - end)) (eq-zero-or-pos (end - length s.line))
     where
       by_place : (length s.line - end ≡ 0) ⊎ (0 < length s.line - end) → (end - length s.line ≡ 0) ⊎ (0 < end - length s.line) → s.line ≡ take end bytes
-      by_place (inr p) q = absurd (no_feed end (omega arith) l.inside (l.place.stops l.inside))
-      by_place (inl p) (inr q) = absurd (l.place.next (length s.line) (omega arith) (omega arith) (feed (omega (arith, l.inside))))
+      by_place (inr p) q = absurd (no_feed end (omega arith) l.inside (l.feed))
+      by_place (inl p) (inr q) = absurd (l.before (length s.line) (omega arith) (feed (omega (arith, l.inside))))
       by_place (inl p) (inl q) =
           sym (take_at s.line (10 ∷ (s.text ++ rest)) end (omega arith)) ∙ sym (ap (take end) parts) ∙ take-append-le end bytes after (omega (arith, l.inside))
-
--- where the code's search for a line feed ended: with the bytes, at one, or where no request's line is so long
-pub line_partial : {bytes : Bytes} {end : ℕ} → LineEnd bytes end → length bytes ≤ end → PartialIn bytes
-line_partial l h = in_line (omega (arith, l.short, l.place.inside)) (λ j k. l.place.next j (omega arith) (omega arith))
-
-pub line_first : {bytes : Bytes} {end : ℕ} → LineEnd bytes end → end < length bytes → get_or bytes end 0 ≡ 10 → FirstLineEnd bytes end
-line_first l h e = record { inside = h; place = record { on = omega arith; inside = omega arith; stops = λ _. e; next = l.place.next } }
-
-pub line_long : {bytes : Bytes} {end : ℕ} → LineEnd bytes end → end < length bytes → ¬ (get_or bytes end 0 ≡ 10) → MalformedIn bytes
-line_long {bytes} {end} l h n =
-    let limit : l.limit ≤ end = ⊎_elim (λ z. omega arith) (λ p. absurd (n (l.place.stops (omega arith)))) (eq-zero-or-pos (l.limit - end)) in
-    let far : l.limit ≡ 4437 = l.far (omega (arith, l.place.inside)) in
-    too_long (omega arith)
-    (λ j k e.
-    ⊎_elim
-    (λ z. let same : j ≡ end = omega (arith, l.place.inside) in n (subst (λ (i : ℕ). get_or bytes i 0 ≡ 10) same e))
-    (λ p. l.place.next j (omega arith) (omega arith) e)
-    (eq-zero-or-pos (end - j)))
 
 -- the bytes of a request whose text begins at a place, behind the line feed of its line
 request_bytes : (bytes : Bytes) (end text n : ℕ) → text ≡ end + 1 → get_or bytes end 0 ≡ 10 → text + n ≤ length bytes
@@ -86,7 +70,7 @@ module _ {bytes : Bytes} {numbers : List ℕ} {r : Request} {text : ℕ} (w : Wh
       }
 
   pub sent_bytes : take (text + r.bytes) bytes ≡ sent sent_in
-  sent_bytes = request_bytes bytes w.end text r.bytes w.after (w.first.place.stops w.first.inside) w.fits
+  sent_bytes = request_bytes bytes w.end text r.bytes w.after (w.first.feed) w.fits
 
 -- where the bytes end in a request, none lies whole in them, and they are fewer than the longest has
 pub partial_none : {bytes : Bytes} → PartialIn bytes → NoneLies bytes
@@ -121,15 +105,15 @@ first_one {bytes} {e} {f} l m = by_place (eq-zero-or-pos (e - f)) (eq-zero-or-po
   where
     by_place : (e - f ≡ 0) ⊎ (0 < e - f) → (f - e ≡ 0) ⊎ (0 < f - e) → e ≡ f
     by_place (inl p) (inl q) = omega arith
-    by_place (inr p) q = absurd (l.place.next f (omega arith) (omega arith) (m.place.stops m.inside))
-    by_place (inl p) (inr q) = absurd (m.place.next e (omega arith) (omega arith) (l.place.stops l.inside))
+    by_place (inr p) q = absurd (l.before f (omega arith) (m.feed))
+    by_place (inl p) (inr q) = absurd (m.before e (omega arith) (l.feed))
 
 module _ {bytes : Bytes} {ns : List ℕ} {r : Request} {text : ℕ} (w : WholeIn bytes ns r text) where
   short_end : w.end ≤ 4437
   short_end = omega (arith, line_short w.line, length-take w.end bytes, w.first.inside)
 
   whole_partial : ¬ PartialIn bytes
-  whole_partial (in_line few none) = none w.end w.first.inside (w.first.place.stops w.first.inside)
+  whole_partial (in_line few none) = none w.end w.first.inside (w.first.feed)
   whole_partial (in_text end ms p l line few) =
       let same = first_one w.first l in
       let one : r ≡ p = (line_one (subst (λ (e : ℕ). LineOf (take e bytes) _ r) same w.line) line).1 in
@@ -137,27 +121,35 @@ module _ {bytes : Bytes} {ns : List ℕ} {r : Request} {text : ℕ} (w : WholeIn
 
   whole_malformed : ¬ MalformedIn bytes
   whole_malformed (no_request end l none) = none _ r (subst (λ (e : ℕ). LineOf (take e bytes) _ r) (first_one w.first l) w.line)
-  whole_malformed (too_long far none) = none w.end short_end (w.first.place.stops w.first.inside)
+  whole_malformed (too_long far none) = none w.end short_end (w.first.feed)
 
 partial_malformed : {bytes : Bytes} → PartialIn bytes → ¬ MalformedIn bytes
-partial_malformed (in_line few none) (no_request end l other) = none end l.inside (l.place.stops l.inside)
+partial_malformed (in_line few none) (no_request end l other) = none end l.inside (l.feed)
 partial_malformed (in_line few none) (too_long far other) = omega arith
 partial_malformed {bytes} (in_text end ns r l line few) (no_request other m none) = none ns r (subst (λ (e : ℕ). LineOf (take e bytes) ns r) (first_one l m) line)
 partial_malformed {bytes} (in_text end ns r l line few) (too_long far none) =
-    none end (omega (arith, line_short line, length-take end bytes, l.inside)) (l.place.stops l.inside)
+    none end (omega (arith, line_short line, length-take end bytes, l.inside)) (l.feed)
+
+-- bytes that hold no request hold none for one reason
+one_reason : (bytes : Bytes) (u v : Unfound) → UnfoundIn bytes u → UnfoundIn bytes v → u ≡ v
+one_reason bytes Unfound.Partial Unfound.Partial p q = refl
+one_reason bytes Unfound.Partial Unfound.Malformed p q = absurd (partial_malformed p q)
+one_reason bytes Unfound.Malformed Unfound.Partial p q = absurd (partial_malformed q p)
+one_reason bytes Unfound.Malformed Unfound.Malformed p q = refl
+
+-- and none that lies whole
+whole_unfound : {bytes : Bytes} {ns : List ℕ} {r : Request} {text : ℕ} (u : Unfound) → WholeIn bytes ns r text → ¬ UnfoundIn bytes u
+whole_unfound Unfound.Partial w p = whole_partial w p
+whole_unfound Unfound.Malformed w m = whole_malformed w m
 
 -- two replies allowed for the same bytes are equal
-pub one_found : (bytes : Bytes) (ns ms : List ℕ) (f g : RequestFound) → FoundIn bytes ns f → FoundIn bytes ms g → f ≡ g
-one_found bytes ns ms (RequestFound.Whole r t) (RequestFound.Whole p u) w v =
+pub one_found : (bytes : Bytes) (ns ms : List ℕ) (f g : Result Found Unfound) → FoundIn bytes ns f → FoundIn bytes ms g → f ≡ g
+one_found bytes ns ms (Ok f) (Ok g) w v =
     let same = first_one w.first v.first in
-    let one : r ≡ p = (line_one (subst (λ (e : ℕ). LineOf (take e bytes) _ r) same w.line) v.line).1 in
-    let texts : t ≡ u = omega (arith, w.after, v.after) in
-    cc
-one_found bytes ns ms (RequestFound.Whole r t) RequestFound.Partial w v = absurd (whole_partial w v)
-one_found bytes ns ms (RequestFound.Whole r t) RequestFound.Malformed w v = absurd (whole_malformed w v)
-one_found bytes ns ms RequestFound.Partial (RequestFound.Whole r t) w v = absurd (whole_partial v w)
-one_found bytes ns ms RequestFound.Partial RequestFound.Partial w v = refl
-one_found bytes ns ms RequestFound.Partial RequestFound.Malformed w v = absurd (partial_malformed w v)
-one_found bytes ns ms RequestFound.Malformed (RequestFound.Whole r t) w v = absurd (whole_malformed v w)
-one_found bytes ns ms RequestFound.Malformed RequestFound.Partial w v = absurd (partial_malformed v w)
-one_found bytes ns ms RequestFound.Malformed RequestFound.Malformed w v = refl
+    let one : f.request ≡ g.request = (line_one (subst (λ (e : ℕ). LineOf (take e bytes) _ f.request) same w.line) v.line).1 in
+    let texts : f.text ≡ g.text = omega (arith, w.after, v.after) in
+    let t : ◌≡◌ {A = Found} (record { request = f.request; text = f.text }) (record { request = g.request; text = g.text }) = cc in
+    ap Ok t
+one_found bytes ns ms (Ok f) (Err v) w p = absurd (whole_unfound v w p)
+one_found bytes ns ms (Err u) (Ok g) p w = absurd (whole_unfound u w p)
+one_found bytes ns ms (Err u) (Err v) p q = ap Err (one_reason bytes u v p q)

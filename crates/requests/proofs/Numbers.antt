@@ -1,7 +1,8 @@
 -- How the code reads one number, digit by digit, and why what it refuses is no number.
+use Rattle.std.specs.Prelude.{None}
 use mathlib.Core.Path.{◌≡◌, refl, sym, ap, ◌∙◌}
 use Prim.Native.Nat.{ℕ, ◌+◌, ◌*◌, ◌-◌, ◌/◌, ◌%◌, ◌<◌, ◌≤◌}
-use mathlib.Core.Bool.{Bool, true, false}
+use mathlib.Core.Bool.{true}
 use mathlib.Core.List.{[], ◌∷◌, ◌++◌}
 use mathlib.Core.Logic.{⊎_elim}
 use native.Mathlib.Numerals.{add-one}
@@ -15,11 +16,6 @@ use Rattle.rules.specs.Decimal.{decimal}
 use Rattle.rules.proofs.Decimal.{decimal_low, decimal_high, Digit, decimal_digits}
 use Rattle.rules.proofs.ReadBack.{decimal_spells, decimal_well, spelled_take}
 use Rattle.requests.specs.Request.{most32, Plain, NumberReply}
-use Rattle.requests.specs.declared.NumberRead.{NumberRead}
-
--- what would make a test true that is false does not hold
-pub refuted : {X : Type 0} (b : Bool) → b ≡ false → (X → b ≡ true) → ¬ X
-refuted b e f x = let t : b ≡ true = f x in let z : ◌≡◌ {A = ℕ} 0 1 = cc in omega arith
 
 -- the first i digits of a number's field spell the value
 pub record Scanned (field : Bytes) (value i : ℕ) : Type 0 where
@@ -35,9 +31,9 @@ scanned_none p =
     record { plain = p; on = omega arith; none = λ _. refl; spells = λ h. absurd (omega arith); high = λ h. absurd (omega arith) }
 
 -- a digit more
-pub scanned_more : {field : Bytes} {value i : ℕ} → Scanned field value i → i < length field
-    → 48 ≤ get_or field i 0 → get_or field i 0 ≤ 57 → Scanned field (value * 10 + (get_or field i 0 - 48)) (i + 1)
-scanned_more {field} {value} {i} s h l u =
+pub scanned_more : {field : Bytes} {value i more : ℕ} → Scanned field value i → i < length field
+    → (48 ≤ get_or field i 0) × (get_or field i 0 ≤ 57) → more ≡ value * 10 + (get_or field i 0 - 48) → Scanned field more (i + 1)
+scanned_more {field} {value} {i} {more} s h digit is =
     record {
       plain = s.plain;
       on = omega arith;
@@ -46,24 +42,24 @@ scanned_more {field} {value} {i} s h l u =
       high = λ _ k. ⊎_elim (λ e. lead e k) (λ p. omega (arith, s.high p k)) (eq-zero-or-pos i);
     }
   where
-    first : i ≡ 0 → take i field ++ get_or field i 0 ∷ [] ≡ decimal (value * 10 + (get_or field i 0 - 48))
+    first : i ≡ 0 → take i field ++ get_or field i 0 ∷ [] ≡ decimal more
     first e =
         let z : value ≡ 0 = s.none e in
-        let d : value * 10 + (get_or field i 0 - 48) < 10 = omega arith in
-        let n : 48 + (value * 10 + (get_or field i 0 - 48)) ≡ get_or field i 0 = omega arith in
+        let d : more < 10 = omega (arith, digit) in
+        let n : 48 + more ≡ get_or field i 0 = omega (arith, digit) in
         rw (decimal_low _ d, n, e)
 
-    later : 0 < i → take i field ++ get_or field i 0 ∷ [] ≡ decimal (value * 10 + (get_or field i 0 - 48))
+    later : 0 < i → take i field ++ get_or field i 0 ∷ [] ≡ decimal more
     later p =
         let v : 0 < value = s.high p (omega arith) in
-        let d : (value * 10 + (get_or field i 0 - 48)) / 10 ≡ value = omega arith in
-        let n : 48 + (value * 10 + (get_or field i 0 - 48)) % 10 ≡ get_or field i 0 = omega arith in
-        rw (decimal_high (value * 10 + (get_or field i 0 - 48)) (omega arith), d, n, s.spells p)
+        let d : more / 10 ≡ value = omega (arith, digit) in
+        let n : 48 + more % 10 ≡ get_or field i 0 = omega (arith, digit) in
+        rw (decimal_high more (omega arith), d, n, s.spells p)
 
-    lead : i ≡ 0 → 1 < length field → 0 < value * 10 + (get_or field i 0 - 48)
+    lead : i ≡ 0 → 1 < length field → 0 < more
     lead e k =
         ⊎_elim
-        (λ z. absurd (s.plain.lead k (ap (λ (j : ℕ). get_or field j 0) (sym e) ∙ omega arith)))
+        (λ z. absurd (s.plain.lead k (ap (λ (j : ℕ). get_or field j 0) (sym e) ∙ omega (arith, digit))))
         (λ p. omega arith)
         (eq-zero-or-pos (get_or field i 0 - 48))
 
@@ -80,15 +76,17 @@ well_plain (d ∷ []) e = record { some = omega arith; lead = λ h. absurd (omeg
 well_plain (d ∷ b ∷ t) e = record { some = omega arith; lead = λ _. eqb-false d 48 (not-true _ e) }
 
 -- a field that is not plain is no number's
-pub refused_spelling : {field : Bytes} → ¬ Plain field → NumberReply field NumberRead.Nothing
+pub refused_spelling : {field : Bytes} → ¬ Plain field → NumberReply field None
 refused_spelling h n l e = h (rw e (well_plain (decimal n) (decimal_well n)))
 
 -- a field with a byte that is no digit is no number's
-pub refused_byte : {field : Bytes} (i : ℕ) → i < length field → ¬ Digit (get_or field i 0) → NumberReply field NumberRead.Nothing
+pub refused_byte : {field : Bytes} (i : ℕ) → i < length field → ¬ Digit (get_or field i 0) → NumberReply field None
 refused_byte i h d n l e = d (rw e ((decimal_digits n).each i (rw (← e) h)))
 
 -- a field that begins with the digits of a number that is too large is no number's
-pub refused_size : {field : Bytes} {value i : ℕ} → Scanned field value i → 0 < i → most32 < value → NumberReply field NumberRead.Nothing
-refused_size {field} {value} {i} s p h n l e =
-    let t : take i (decimal n) ≡ decimal value = rw e at (s.spells p) in
-    omega (arith, decimal_spells n, decimal_spells value, rw t at (spelled_take 0 i (decimal n)))
+pub refused_size : {field : Bytes} {value i : ℕ} → Scanned field value i → i < length field → (48 ≤ get_or field i 0) × (get_or field i 0 ≤ 57)
+    → most32 < value * 10 + (get_or field i 0 - 48) → NumberReply field None
+refused_size {field} {value} {i} s h digit large n l e =
+    let more = value * 10 + (get_or field i 0 - 48) in
+    let t : take (i + 1) (decimal n) ≡ decimal more = ap (take (i + 1)) (sym e) ∙ (scanned_more s h digit refl).spells (omega arith) in
+    omega (arith, decimal_spells n, decimal_spells more, rw t at (spelled_take 0 (i + 1) (decimal n)))

@@ -1,14 +1,10 @@
 -- What a request's line says: it is read as report's numbers are written, a word and then numbers, each after a tab.
-use Rattle.std.specs.Prelude.{◌≡◌, ℕ, ◌<◌, ◌≤◌, true, false, List, [], ◌∷◌, ◌++◌, length, get_or, take, drop}
+use Rattle.std.specs.Prelude.{◌≡◌, ℕ, ◌<◌, ◌≤◌, true, false, List, [], ◌∷◌, ◌++◌, length, get_or, take, Option, Some, None}
 use Rattle.rules.specs.Text.{Bytes}
 use Rattle.rules.specs.Decimal.{decimal}
 use Rattle.report.specs.Line.{fields}
 use Rattle.requests.specs.declared.Ask.{Ask}
-use Rattle.requests.specs.declared.AskRead.{AskRead}
-use Rattle.requests.specs.declared.NumberRead.{NumberRead}
 use Rattle.requests.specs.declared.Request.{Request}
-use Rattle.requests.specs.declared.RequestRead.{RequestRead}
-use Rattle.requests.specs.declared.CountRead.{CountRead}
 
 -- the words `judge`, `counts`, `play` and `outcome`
 abbrev pub name_of : Ask → Bytes
@@ -27,40 +23,39 @@ pub record Plain (field : Bytes) : Type 0 where
   pub lead : 1 < length field → ¬ (get_or field 0 0 ≡ 48)
 
 -- the field is the number in decimal; or it is no number's
-abbrev pub NumberReply : Bytes → NumberRead → Type 0
-NumberReply field (NumberRead.Got n) = (n ≤ most32) × (field ≡ decimal n)
-NumberReply field NumberRead.Nothing = (n : ℕ) → n ≤ most32 → ¬ (field ≡ decimal n)
+abbrev pub NumberReply : Bytes → Option ℕ → Type 0
+NumberReply field (Some n) = (n ≤ most32) × (field ≡ decimal n)
+NumberReply field None = (n : ℕ) → n ≤ most32 → ¬ (field ≡ decimal n)
 
--- the first place from a place on that has the byte, or the limit where none before it has
-pub record FirstPlace (byte : ℕ) (bytes : Bytes) (from limit at : ℕ) : Type 0 where
-  pub on : from ≤ at
-  pub inside : at ≤ limit
-  pub stops : at < limit → get_or bytes at 0 ≡ byte
-  pub next : (j : ℕ) → from ≤ j → j < at → ¬ (get_or bytes j 0 ≡ byte)
+-- what follows a field: nothing, or a tab and more
+pub record Ends (rest : Bytes) : Type 0 where
+  pub stops : 0 < length rest → get_or rest 0 0 ≡ 9
 
--- a field that begins at a place ends at the next tab, or with the line
-abbrev pub FieldEnd : (line : Bytes) (begin end : ℕ) → Type 0
-FieldEnd line begin end = FirstPlace 9 line begin (length line) end
+-- the first field of a text, and what follows it
+pub record FirstField (text field rest : Bytes) : Type 0 where
+  pub parts : text ≡ field ++ rest
+  pub no_tab : (j : ℕ) → j < length field → ¬ (get_or field j 0 ≡ 9)
+  pub ends : Ends rest
 
 -- numbers that the rest of a line can be: 403 at most, each of 32 bits
 pub record Few (numbers : List ℕ) : Type 0 where
   pub count : length numbers ≤ 403
   pub small : (j : ℕ) → get_or numbers j 0 ≤ most32
 
--- the line goes on with so many numbers; or with no such numbers
-pub record CountOf (line : Bytes) (at : ℕ) (numbers : List ℕ) (n : ℕ) : Type 0 where
+-- the rest of a line is so many numbers; or no such numbers
+pub record CountOf (text : Bytes) (numbers : List ℕ) (n : ℕ) : Type 0 where
   pub size : length (take n numbers) ≡ n
   pub few : Few (take n numbers)
-  pub reads : drop at line ≡ fields (take n numbers)
+  pub reads : text ≡ fields (take n numbers)
 
-abbrev pub CountReply : Bytes → ℕ → List ℕ → CountRead → Type 0
-CountReply line at numbers (CountRead.Got n) = CountOf line at numbers n
-CountReply line at numbers CountRead.Malformed = (ns : List ℕ) → Few ns → ¬ (drop at line ≡ fields ns)
+abbrev pub CountReply : Bytes → List ℕ → Option ℕ → Type 0
+CountReply text numbers (Some n) = CountOf text numbers n
+CountReply text numbers None = (ns : List ℕ) → Few ns → ¬ (text ≡ fields ns)
 
 -- the field is the word of what is asked; or no such word
-abbrev pub AskReply : Bytes → AskRead → Type 0
-AskReply field (AskRead.Got ask) = field ≡ name_of ask
-AskReply field AskRead.Unknown = (ask : Ask) → ¬ (field ≡ name_of ask)
+abbrev pub AskReply : Bytes → Option Ask → Type 0
+AskReply field (Some ask) = field ≡ name_of ask
+AskReply field None = (ask : Ask) → ¬ (field ≡ name_of ask)
 
 -- judge, with all counts or not: workspace, bytes; play: those, room and cells; outcome: those, room and the outcome's number
 abbrev pub HasNumbers : Ask → ℕ → Type 0
@@ -83,14 +78,14 @@ pub record RequestOf (numbers : List ℕ) (r : Request) : Type 0 where
   pub bytes_within : r.bytes ≤ 65536
   pub room_within : r.room ≤ 1000
 
--- the request that asks this with the first n numbers; or there is none
+-- the request that asks this with the numbers; or there is none
 pub record AskedWith (ask : Ask) (numbers : List ℕ) (r : Request) : Type 0 where
   pub ask_is : r.ask ≡ ask
   pub means : RequestOf numbers r
 
-abbrev pub RequestReply : Ask → List ℕ → ℕ → RequestRead → Type 0
-RequestReply ask numbers n (RequestRead.Got r) = AskedWith ask (take n numbers) r
-RequestReply ask numbers n RequestRead.Malformed = (r : Request) → ¬ AskedWith ask (take n numbers) r
+abbrev pub RequestReply : Ask → List ℕ → Option Request → Type 0
+RequestReply ask numbers (Some r) = AskedWith ask numbers r
+RequestReply ask numbers None = (r : Request) → ¬ AskedWith ask numbers r
 
 -- the line of a request: the word of what is asked, and its numbers
 pub record LineOf (line : Bytes) (numbers : List ℕ) (r : Request) : Type 0 where
@@ -99,6 +94,6 @@ pub record LineOf (line : Bytes) (numbers : List ℕ) (r : Request) : Type 0 whe
   pub means : RequestOf numbers r
 
 -- the line is the request's, whose numbers were put first; or it is no request's
-abbrev pub LineReply : Bytes → List ℕ → RequestRead → Type 0
-LineReply line numbers (RequestRead.Got r) = LineOf line (take r.count numbers) r
-LineReply line numbers RequestRead.Malformed = (ns : List ℕ) (r : Request) → ¬ LineOf line ns r
+abbrev pub LineReply : Bytes → List ℕ → Option Request → Type 0
+LineReply line numbers (Some r) = LineOf line (take r.count numbers) r
+LineReply line numbers None = (ns : List ℕ) (r : Request) → ¬ LineOf line ns r

@@ -1,9 +1,10 @@
 -- The requests that lie in some bytes.
-use Rattle.std.specs.Prelude.{◌≡◌, ℕ, ◌+◌, ◌<◌, ◌≤◌, List, ◌∷◌, ◌++◌, length, get_or, take}
+use Rattle.std.specs.Prelude.{Result, Ok, Err, ◌≡◌, ℕ, ◌+◌, ◌<◌, ◌≤◌, List, ◌∷◌, ◌++◌, length, get_or, take}
 use Rattle.rules.specs.Text.{Bytes}
-use Rattle.requests.specs.Request.{FirstPlace, LineOf}
+use Rattle.requests.specs.Request.{LineOf}
 use Rattle.requests.specs.declared.Request.{Request}
-use Rattle.requests.specs.declared.RequestFound.{RequestFound}
+use Rattle.requests.specs.declared.Found.{Found}
+use Rattle.requests.specs.declared.Unfound.{Unfound}
 
 -- a request as it is sent: its line, and the text of its sheet
 pub record Sent : Type 0 where
@@ -26,18 +27,11 @@ NoneLies bytes = (s : Sent) (rest : Bytes) → ¬ (bytes ≡ sent s ++ rest)
 abbrev pub NoneBegins : Bytes → Type 0
 NoneBegins bytes = (s : Sent) (after rest : Bytes) → ¬ (bytes ++ after ≡ sent s ++ rest)
 
--- the first line feed is at `end`, or the bytes have none and end there, or no line of a request is so long
-pub record LineEnd (bytes : Bytes) (end : ℕ) : Type 0 where
-  pub limit : ℕ
-  pub short : limit ≤ 4437
-  pub inside : limit ≤ length bytes
-  pub far : limit < length bytes → limit ≡ 4437
-  pub place : FirstPlace 10 bytes 0 limit end
-
 -- the first line of the bytes ends at a line feed
 pub record FirstLineEnd (bytes : Bytes) (end : ℕ) : Type 0 where
   pub inside : end < length bytes
-  pub place : FirstPlace 10 bytes 0 (length bytes) end
+  pub feed : get_or bytes end 0 ≡ 10
+  pub before : (j : ℕ) → j < end → ¬ (get_or bytes j 0 ≡ 10)
 
 -- a request at the front of the bytes, whose text begins at a place
 pub record WholeIn (bytes : Bytes) (numbers : List ℕ) (r : Request) (text : ℕ) : Type 0 where
@@ -57,7 +51,12 @@ pub data MalformedIn (bytes : Bytes) : Type 0 where
   no_request : (end : ℕ) → FirstLineEnd bytes end → ((ns : List ℕ) (r : Request) → ¬ LineOf (take end bytes) ns r) → MalformedIn bytes
   too_long : 4437 < length bytes → ((j : ℕ) → j ≤ 4437 → ¬ (get_or bytes j 0 ≡ 10)) → MalformedIn bytes
 
-abbrev pub FoundIn : Bytes → List ℕ → RequestFound → Type 0
-FoundIn bytes numbers (RequestFound.Whole r text) = WholeIn bytes numbers r text
-FoundIn bytes numbers RequestFound.Partial = PartialIn bytes
-FoundIn bytes numbers RequestFound.Malformed = MalformedIn bytes
+-- why no request was found
+abbrev pub UnfoundIn : Bytes → Unfound → Type 0
+UnfoundIn bytes Unfound.Partial = PartialIn bytes
+UnfoundIn bytes Unfound.Malformed = MalformedIn bytes
+
+-- the first request of the bytes was found; or there is none
+abbrev pub FoundIn : Bytes → List ℕ → Result Found Unfound → Type 0
+FoundIn bytes numbers (Ok f) = WholeIn bytes numbers f.request f.text
+FoundIn bytes numbers (Err u) = UnfoundIn bytes u

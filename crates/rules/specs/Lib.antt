@@ -9,6 +9,7 @@ pub mod Decimal
 pub mod Written
 pub mod Verdict
 pub mod Reading
+pub mod Answer
 pub mod Unread
 pub mod Checks
 pub mod Typed

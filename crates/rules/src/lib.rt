@@ -1,7 +1,10 @@
-// rules: the words of document 01. It holds the types of a board and of every reply; what the words mean stands in
-// specs/, and what follows from it in proofs/. It sees no other crate.
+// rules: the words of document 01. It holds the types of a board and of every reply, and what is told of a verdict; what the words mean
+// stands in specs/, and what follows from it in proofs/. It sees no other crate.
 
 #![tactic(auto)]
+
+ghost use Rattle.std.specs.Prelude.{◌≡◌};
+ghost use Rattle.rules.specs.Verdict.{told, told_as};
 
 // D joins row 1 to the last row, A joins the first column to the last.
 #[derive(Clone, Copy)]
@@ -74,6 +77,67 @@ pub struct Told {
     pub cell: u32,
     pub index: u32,
     pub counts: Counts,
+}
+
+// What document 01 says of a refusal: the counts are 0.
+fn refusal(number: u32, line: u32, cell: u32, index: u32) -> Told
+    ensures { result ≡ told_as number line cell index }
+{
+    Told {
+        number,
+        line,
+        cell,
+        index,
+        counts: Counts {
+            moves: 0,
+            waits: 0,
+            outcomes: 0,
+            passed: 0,
+            idle: 0,
+        },
+    }
+}
+
+// What document 01 says of a verdict.
+impl From<Verdict> for Told {
+    ghost from_gives = { λ v t. t ≡ told v };
+
+    fn from(verdict: Verdict) -> Told {
+        match verdict {
+            Verdict::Accepted { counts } => Told {
+                number: 0,
+                line: 0,
+                cell: 0,
+                index: 0,
+                counts,
+            },
+            Verdict::Done => refusal(0, 0, 0, 0),
+            Verdict::SmallWorkspace => refusal(1, 0, 0, 0),
+            Verdict::LongText => refusal(2, 0, 0, 0),
+            Verdict::BadHeader => refusal(3, 1, 0, 0),
+            Verdict::BadLine { line } => refusal(4, line, 0, 0),
+            Verdict::OffBoard { line } => refusal(5, line, 0, 0),
+            Verdict::TooManyNodes { line } => refusal(6, line, 0, 0),
+            Verdict::TooDeep { line } => refusal(7, line, 0, 0),
+            Verdict::Unfinished { line } => refusal(8, line, 0, 0),
+            Verdict::TextAfter { line } => refusal(9, line, 0, 0),
+            Verdict::NotApart { line, cell } => refusal(10, line, cell, 0),
+            Verdict::NotElusive { line, cell } => refusal(11, line, cell, 0),
+            Verdict::TooManyOutcomes => refusal(12, 0, 0, 0),
+            Verdict::NotJoined { index } => refusal(13, 0, 0, index),
+            Verdict::ShortRoom => refusal(14, 0, 0, 0),
+            Verdict::AfterOver => refusal(15, 0, 0, 0),
+            Verdict::NoSuchCell => refusal(16, 0, 0, 0),
+            Verdict::CellTaken => refusal(17, 0, 0, 0),
+            Verdict::NoSuchOutcome => refusal(18, 0, 0, 0),
+            Verdict::SetUpTwice { line, cell } => refusal(19, line, cell, 0),
+            Verdict::OnSetUp { line, cell } => refusal(20, line, cell, 0),
+            Verdict::UnknownName { line } => refusal(21, line, 0, 0),
+            Verdict::WrongCells { line } => refusal(22, line, 0, 0),
+            Verdict::NameTwice { line } => refusal(23, line, 0, 0),
+            Verdict::SameBranch { line } => refusal(24, line, 0, 0),
+        }
+    }
 }
 
 // Play also returns the place of the refused move, the number of answers, and whether play is over.

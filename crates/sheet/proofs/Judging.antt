@@ -1,20 +1,23 @@
 -- What judge replies of a text.
 use mathlib.Core.Path.{◌≡◌, refl, sym, ap, ◌∙◌}
-use mathlib.Core.List.{List, ◌++◌}
-use Prim.Native.Nat.{ℕ, ◌≤◌, ◌<◌}
+use mathlib.Core.List.{List}
+use Prim.Native.Nat.{ℕ, ◌≤◌}
 use native.Mathlib.Omega.{arith}
-use lib.ListN.{length, drop, replicate}
+use lib.ListN.{length}
 use borrow.Author.Tests.{lt-ltb, le-ltb}
 use Rattle.rules.specs.Sizes.{least_workspace}
 use Rattle.rules.specs.Text.{Bytes}
 use Rattle.rules.specs.Tree.{Sheet}
 use Rattle.rules.specs.Reading.{Result, refused, got}
-use Rattle.rules.specs.Entries.{◌>>=◌, refuse_if, read_text_up_to, read_text, read_up_to, accepted, judged, judge, workspace_after, JudgeKept}
+use Rattle.rules.specs.Entries.{◌>>=◌, refuse_if, read_text_up_to, read_text, read_up_to, accepted, judged, judge, JudgeKept}
 use Rattle.rules.specs.declared.Verdict.{Verdict}
 use Rattle.rules.specs.declared.Verdict.TheVariants.{SmallWorkspace}
+use Rattle.std.specs.Prelude.{Option, Some, None}
+use Rattle.std.specs.Option.{unwrap_or}
+use Rattle.sheet.specs.Table.{RanReply, RanOn}
 use Rattle.judging.specs.Checked.{passing}
 
--- of a text, with the workspace that document 01 names
+-- of a text, with a workspace that suffices
 pub text_accepted : (w : ℕ) (t : Bytes) → least_workspace ≤ w → accepted w t ≡ (read_text t >>= passing)
 unfolding accepted read_up_to read_text_up_to refuse_if ◌>>=◌
 text_accepted w t h = rw (le-ltb w least_workspace h)
@@ -33,15 +36,11 @@ unfolding ◌>>=◌
 reply_sheet t s v e j = j ∙ sym (text_judged least_workspace t (omega arith) (got s) e)
 
 -- judge itself: with any workspace that is long enough the verdict is the same
-pub judge_short : (ws : List ℕ) (t : Bytes) → length ws < least_workspace → JudgeKept ws t SmallWorkspace ws
-unfolding judge judged accepted read_up_to read_text_up_to refuse_if workspace_after ◌>>=◌
-judge_short ws t h = record { reply = sym (rw (lt-ltb (length ws) least_workspace h)); memory = sym (rw (lt-ltb (length ws) least_workspace h)) }
-
-pub judge_long : (ws : List ℕ) (t : Bytes) (v : Verdict) (after : List ℕ) → least_workspace ≤ length ws → v ≡ judge least_workspace t
-    → after ≡ replicate least_workspace 0 ++ drop least_workspace ws → JudgeKept ws t v after
-unfolding workspace_after
-judge_long ws t v after h e m =
-    record {
-      reply = e ∙ text_judged least_workspace t (omega arith) (read_text t) refl ∙ sym (text_judged (length ws) t h (read_text t) refl);
-      memory = m ∙ sym (rw (le-ltb (length ws) least_workspace h));
-    }
+pub judge_ran : {F : Type 0} (run : List ℕ → Verdict → F → List ℕ → Type 0) (ws : List ℕ) (t : Bytes) (o : Option Verdict) (before after : F) (ws' : List ℕ) → RanOn run ws o before after ws'
+    → ((table table' : List ℕ) (v : Verdict) → run table v after table' → v ≡ judge least_workspace t) → JudgeKept ws t (unwrap_or o SmallWorkspace) ws'
+judge_ran run ws t o before after ws' k each = record { reply = reply o k.reply_is; memory = k.memory }
+  where
+    reply : (o : Option Verdict) → RanReply run ws o before after → unwrap_or o SmallWorkspace ≡ judge (length ws) t
+    reply None n = unfold judge judged accepted read_up_to read_text_up_to refuse_if ◌>>=◌ in sym (rw (lt-ltb (length ws) least_workspace n.0))
+    reply (Some v) n =
+        each _ _ v n.ran ∙ text_judged least_workspace t (omega arith) (read_text t) refl ∙ sym (text_judged (length ws) t n.enough (read_text t) refl)

@@ -3,3 +3,4 @@ pub mod Naming
 pub mod Playing
 pub mod Promise
 pub mod Meets
+pub mod Table

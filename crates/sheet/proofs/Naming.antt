@@ -4,7 +4,7 @@ use mathlib.Core.Bool.{Bool, ◌||◌}
 use mathlib.Core.List.{List, [], ◌++◌, append_assoc}
 use Prim.Native.Nat.{ℕ, ◌≤◌, ◌<◌}
 use native.Mathlib.Omega.{arith}
-use lib.ListN.{length, get_or, drop, replicate}
+use lib.ListN.{length, get_or, drop}
 use borrow.Author.Tests.{lt-ltb, le-ltb}
 use Rattle.rules.specs.Sizes.{least_workspace}
 use Rattle.rules.specs.Words.{among}
@@ -14,7 +14,7 @@ use Rattle.rules.specs.Tree.{Sheet, stone, own_cells, at_start}
 use Rattle.rules.specs.Reading.{Result, refused, got}
 use Rattle.rules.specs.Live.{living}
 use Rattle.rules.specs.Outcomes.{outcomes, outcome_count, outcomes_of_waits}
-use Rattle.rules.specs.Entries.{◌>>=◌, refuse_if, read_text_up_to, read_text, read_up_to, fair, outcome_cells, OutcomeReply, named, outcome, outcome_shown, workspace_after, room_after, OutcomeKept}
+use Rattle.rules.specs.Entries.{◌>>=◌, refuse_if, read_text_up_to, read_text, read_up_to, fair, outcome_cells, OutcomeReply, named, outcome, outcome_shown, room_after, OutcomeKept}
 use Rattle.rules.specs.declared.Board.{Board}
 use Rattle.rules.specs.declared.Named.{Named}
 use Rattle.rules.specs.declared.Verdict.{Verdict}
@@ -24,16 +24,20 @@ use Rattle.rules.proofs.Outcomes.{nth_outcome}
 use Rattle.cells.specs.Cells.{held, Listed}
 use Rattle.cells.proofs.Smallest.{listed_same}
 use Rattle.nodes.specs.Sheets.{HoldsSetUp}
-use Rattle.nodes.specs.declared.SetUp.{SetUp}
+use Rattle.nodes.specs.declared.head.SetUp.{SetUp}
 use Rattle.nodes.proofs.Sheets.{living_weighed}
 use Rattle.outcomes.specs.Picking.{MovePick, SomeMovePick, MovePicked}
 use Rattle.judging.specs.Checked.{Passed}
-use Rattle.sheet.specs.Naming.{listing, naming, HasOutcome, SomeOutcome, NamedKept}
+use Rattle.sheet.specs.Naming.{listing, naming, HasOutcome, SomeOutcome, as_named, NamedKept}
+use Rattle.std.specs.Prelude as code
+use Rattle.std.specs.Prelude.{Ok, Err, Option, Some, None}
+use Rattle.std.specs.Option.{unwrap_or}
+use Rattle.sheet.specs.Table.{RanReply, RanOn}
 
 -- a refusal lists nothing, and leaves the room as it was
-pub kept_refused : (o : OutcomeReply) (v : Verdict) (room : List ℕ) (r : Named) → o ≡ named (refused v) → r ≡ outcome_shown (named (refused v)) → NamedKept o room r room
-unfolding room_after named
-kept_refused o v room r e q = record { reply_is = q ∙ ap outcome_shown (sym e); room_is = ap (λ (z : OutcomeReply). room_after z.cells room) (sym e) }
+pub kept_refused : (o : OutcomeReply) (v : Verdict) (room : List ℕ) → o ≡ named (refused v) → NamedKept o room (as_named (Err v)) room
+unfolding room_after named outcome_shown
+kept_refused o v room e = record { reply_is = sym (ap outcome_shown e); room_is = ap (λ (z : OutcomeReply). room_after z.cells room) (sym e) }
 
 -- the outcome that was picked, in the words of rules
 module _ {t : List ℕ} {b : Board} {own : List ℕ} {s : Sheet} {number : ℕ} (h : HasOutcome t b own s number) where
@@ -55,26 +59,25 @@ module _ {t : List ℕ} {b : Board} {own : List ℕ} {s : Sheet} {number : ℕ} 
       ∙ ap (λ (z : Board). listed z (among (get_or (outcomes s) number []))) (sym h.holds.on)
 
   -- 14, or the cells
-  module _ (room : List ℕ) (cells : List ℕ) (same : cells ≡ outcome_cells s number) (r : Named) where
-    pub listed_short : length room < length cells → r ≡ outcome_shown (named (refused ShortRoom)) → NamedKept (named (listing s number (length room))) room r room
+  module _ (room : List ℕ) (cells : List ℕ) (same : cells ≡ outcome_cells s number) where
+    pub listed_short : length room < length cells → NamedKept (named (listing s number (length room))) room (as_named (Err ShortRoom)) room
     unfolding listing refuse_if ◌>>=◌
-    listed_short l e =
-        kept_refused (named (listing s number (length room))) ShortRoom room r
-        (rw (lt-ltb (length room) (length (outcome_cells s number)) (subst (λ (z : List ℕ). length room < length z) same l))) e
+    listed_short l =
+        kept_refused (named (listing s number (length room))) ShortRoom room
+        (rw (lt-ltb (length room) (length (outcome_cells s number)) (subst (λ (z : List ℕ). length room < length z) same l)))
 
-    pub listed_done : (room' : List ℕ) (n : ℕ) → length cells ≤ length room → Listed cells room room' n → r ≡ record { verdict = Done; cells = n }
-        → NamedKept (named (listing s number (length room))) room r room'
-    listed_done room' n l w e =
+    pub listed_done : (room' : List ℕ) (n : ℕ) → length cells ≤ length room → Listed cells room room' n → NamedKept (named (listing s number (length room))) room (as_named (Ok n)) room'
+    listed_done room' n l w =
         let q = goes (subst (λ (z : List ℕ). length z ≤ length room) same l) in
         record {
-          reply_is = e ∙ shown w.number ∙ ap outcome_shown (sym q);
+          reply_is = shown w.number ∙ ap outcome_shown (sym q);
           room_is = w.written ∙ placed ∙ ap (λ (z : OutcomeReply). room_after z.cells room) (sym q);
         }
       where
         goes : length (outcome_cells s number) ≤ length room → named (listing s number (length room)) ≡ record { verdict = Done; cells = outcome_cells s number }
         goes k = unfold listing refuse_if ◌>>=◌ named in rw (le-ltb (length room) (length (outcome_cells s number)) k)
 
-        shown : n ≡ length cells → ◌≡◌ {A = Named} (record { verdict = Done; cells = n }) (outcome_shown (record { verdict = Done; cells = outcome_cells s number }))
+        shown : n ≡ length cells → as_named (Ok n) ≡ outcome_shown (record { verdict = Done; cells = outcome_cells s number })
         shown k = unfold outcome_shown in ap (λ (z : ℕ). record { verdict = Done; cells = z }) (k ∙ ap length same)
 
         placed : (cells ++ drop (length cells) room) ≡ room_after (outcome_cells s number) room
@@ -97,7 +100,7 @@ module _ (s : Sheet) (i room : ℕ) where
   unfolding naming refuse_if ◌>>=◌
   naming_listing e h = rw (e, lt-ltb i (outcome_count s) h)
 
--- of a text, with the workspace that document 01 names
+-- of a text, with a workspace that suffices
 module _ (t : Bytes) (i room : ℕ) where
   text_outcome : (w : ℕ) → least_workspace ≤ w → outcome w t i room ≡ named (read_text t >>= λ s. naming s i room)
   unfolding outcome read_up_to read_text_up_to naming listing refuse_if ◌>>=◌
@@ -114,34 +117,27 @@ module _ (t : Bytes) (i room : ℕ) where
   pub outcome_same : (w : ℕ) → least_workspace ≤ w → outcome least_workspace t i room ≡ outcome w t i room
   outcome_same w h = text_outcome least_workspace (omega arith) ∙ sym (text_outcome w h)
 
--- outcome itself
-pub outcome_short : (ws : List ℕ) (t : Bytes) (i : ℕ) (room : List ℕ) (r : Named) → length ws < least_workspace → r ≡ outcome_shown (named (refused SmallWorkspace))
-    → OutcomeKept ws t i room r ws room
-unfolding outcome read_up_to read_text_up_to refuse_if workspace_after room_after named ◌>>=◌
-outcome_short ws t i room r h e =
-    record {
-      reply = e ∙ sym (rw (lt-ltb (length ws) least_workspace h));
-      memory = sym (rw (lt-ltb (length ws) least_workspace h));
-      cells = sym (rw (lt-ltb (length ws) least_workspace h));
-    }
-
-pub outcome_long : (ws : List ℕ) (t : Bytes) (i : ℕ) (room : List ℕ) (r : Named) (after room' : List ℕ) → least_workspace ≤ length ws
-    → NamedKept (outcome least_workspace t i (length room)) room r room' → after ≡ replicate least_workspace 0 ++ drop least_workspace ws
-    → OutcomeKept ws t i room r after room'
-unfolding workspace_after
-outcome_long ws t i room r after room' h k m =
-    let e = outcome_same t i (length room) (length ws) h in
-    record {
-      reply = k.reply_is ∙ ap outcome_shown e;
-      memory = m ∙ sym (rw (le-ltb (length ws) least_workspace h));
-      cells = k.room_is ∙ ap (λ (z : OutcomeReply). room_after z.cells room) e;
-    }
-
 -- a reply that is the same as another
 pub kept_as : {o o' : OutcomeReply} {room room' : List ℕ} {r : Named} → o ≡ o' → NamedKept o' room r room' → NamedKept o room r room'
 kept_as {o} {o'} {room} {room'} {r} e k = subst⁻¹ (λ (z : OutcomeReply). NamedKept z room r room') e k
 
+-- outcome itself
+pub outcome_ran : {F : Type 0} (run : List ℕ → code.Result ℕ Verdict → F → List ℕ → Type 0) (ws : List ℕ) (t : Bytes) (i : ℕ) (room room' : List ℕ) (o : Option (code.Result ℕ Verdict))
+    (before after : F) (ws' : List ℕ) → RanOn run ws o before after ws' → (after ≡ before → room' ≡ room)
+    → ((table table' : List ℕ) (r : code.Result ℕ Verdict) → run table r after table' → NamedKept (outcome least_workspace t i (length room)) room (as_named r) room')
+    → OutcomeKept ws t i room (as_named (unwrap_or o (Err SmallWorkspace))) ws' room'
+outcome_ran run ws t i room room' o before after ws' k none each =
+    let q = kept o k.reply_is in
+    record { reply = q.reply_is; memory = k.memory; cells = q.room_is }
+  where
+    kept : (o : Option (code.Result ℕ Verdict)) → RanReply run ws o before after
+        → NamedKept (outcome (length ws) t i (length room)) room (as_named (unwrap_or o (Err SmallWorkspace))) room'
+    kept None n =
+        rw (none n.1) (kept_refused (outcome (length ws) t i (length room)) SmallWorkspace room
+        (unfold outcome read_up_to read_text_up_to refuse_if named ◌>>=◌ in rw (lt-ltb (length ws) least_workspace n.0)))
+    kept (Some r) n = kept_as (sym (outcome_same t i (length room) (length ws) n.enough)) (each _ _ r n.ran)
+
 -- a fair sheet that has the outcome
 pub has_outcome : {t : List ℕ} {b : Board} {u : SetUp} {s : Sheet} {number count idle : ℕ} → HoldsSetUp b s u → Passed t b s (fair s) count idle → number < count
-    → HasOutcome t b u.own.rows s number
+    → HasOutcome t b u.stones.own.rows s number
 has_outcome h f l = record { holds = f.keeps.holds; own_held = h.stones.own_held; few = omega (arith, f.counted, f.few); numbered = omega (arith, f.counted) }

@@ -1,5 +1,6 @@
 -- What the steps of outcome promise.
 use Rattle.std.specs.Prelude.{◌≡◌, ℕ, ◌<◌, ◌≤◌, not, List, ltb, length}
+use Rattle.std.specs.Prelude as code
 use Rattle.rules.specs.Sizes.{most_outcomes}
 use Rattle.rules.specs.Tree.{Sheet, own_cells}
 use Rattle.rules.specs.Reading.{Result, got}
@@ -7,7 +8,8 @@ use Rattle.rules.specs.Outcomes.{outcome_count}
 use Rattle.rules.specs.Entries.{◌>>=◌, refuse_if, fair, outcome_cells, OutcomeReply, outcome_shown, room_after}
 use Rattle.rules.specs.declared.Board.{Board}
 use Rattle.rules.specs.declared.Named.{Named}
-use Rattle.rules.specs.declared.Verdict.TheVariants.{NoSuchOutcome, ShortRoom}
+use Rattle.rules.specs.declared.Verdict.{Verdict}
+use Rattle.rules.specs.declared.Verdict.TheVariants.{Done, NoSuchOutcome, ShortRoom}
 use Rattle.cells.specs.Cells.{Holds}
 use Rattle.nodes.specs.Sheets.{HoldsLiving}
 
@@ -35,6 +37,11 @@ pub record HasOutcome (t : List ℕ) (b : Board) (own : List ℕ) (s : Sheet) (n
 pub record SomeOutcome (t : List ℕ) (b : Board) (own : List ℕ) (number : ℕ) : Type 0 where
   pub sheet : Sheet
   pub has : HasOutcome t b own sheet number
+
+-- an answer as outcome returns it: on a refusal no cells
+abbrev pub as_named : code.Result ℕ Verdict → Named
+as_named (code.Ok n) = record { verdict = Done; cells = n }
+as_named (code.Err v) = record { verdict = v; cells = 0 }
 
 -- the reply that is handed back, and the room after it
 pub record NamedKept (o : OutcomeReply) (room : List ℕ) (r : Named) (room' : List ℕ) : Type 0 where

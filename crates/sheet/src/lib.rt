@@ -3,324 +3,236 @@
 
 #![tactic(auto)]
 
-ghost use Rattle.std.specs.Prelude.{◌≡◌, ◌≤◌, length, replicate};
+ghost use Rattle.std.specs.Prelude.{◌≡◌, ◌≤◌, length};
+ghost use Rattle.std.specs.Fn.{CalledAtMut};
 ghost use Rattle.rules.specs.Text.{Bytes};
-ghost use Rattle.rules.specs.Sizes.{most_nodes, least_workspace};
+ghost use Rattle.rules.specs.Sizes.{least_workspace};
 ghost use Rattle.rules.specs.Tree.{Sheet};
 ghost use Rattle.nodes.specs.Sheets.{HoldsSheet, HoldsWhole, SomeWhole, HeldStones};
 ghost use Rattle.live.specs.Thinning.{KeepsLive};
 ghost use Rattle.rules.specs.declared.Board as declared;
 ghost use Rattle.rules.specs.Answering.{start};
-ghost use Rattle.rules.specs.Entries.{read_text, judge, JudgeKept, named, outcome, outcome_shown, OutcomeKept, rounds, played_out, refused_play, play, play_shown, PlayKept};
-ghost use Rattle.answering.specs.Playing.{Playable, SomePlayable};
-ghost use Rattle.loading.specs.Held.{SheetHeld};
-ghost use Rattle.rules.specs.Reading.{refused, got};
-ghost use Rattle.sheet.specs.Naming.{listing, naming, HasOutcome, SomeOutcome, NamedKept};
-ghost use Rattle.loading.specs.Copied.{Copied};
+ghost use Rattle.rules.specs.Entries.{read_text, judge, JudgeKept, named, outcome, OutcomeKept, rounds, played_out, play, PlayKept};
+ghost use Rattle.answering.specs.Playing.{Playable, SomePlayable, as_played};
+ghost use Rattle.rules.specs.Reading.{got};
+ghost use Rattle.sheet.specs.Table.{RanOn};
+ghost use Rattle.sheet.specs.Naming.{listing, naming, HasOutcome, SomeOutcome, as_named, NamedKept};
 ghost use Rattle.sheet.specs.Playing.{ReadyHeld, ReadyReply, SomeReady, PlayedKept};
 
-use answering::{PlayedOut, play_moves};
-use cells::Cells;
-use judging::{AcceptedRead, FairRead, accept_sheet, fair_sheet, judge_table};
-use loading::{Loaded, SheetRead, clear, read_sheet};
-use nodes::SetUp;
+use answering::{PlayedOut, Stopped, play_moves};
+use cells::{Cells, Grid};
+use judging::{accept_sheet, fair_sheet, judge_table};
+use loading::{clear, read_sheet};
+use nodes::Head;
 use outcomes::pick_move;
-use rules::{Board, Named, Played, Player, Verdict};
+use rules::{Named, Played, Verdict};
 
 // The verdict on a sheet that is read into the table.
-fn judge_text(sheet: &[u8], table: &mut [u32]) -> Verdict
-    requires { length table.old ≡ least_workspace }
+fn judge_text(sheet: &[u8], table: &mut [u32; 8192]) -> Verdict
     ensures { result ≡ judge least_workspace sheet.now }
 {
-    let loaded = read_sheet(sheet, table);
-    let read = loaded.read;
-    let setup = loaded.setup;
-    match read {
-        SheetRead::Refused { verdict } => verdict,
-        SheetRead::Got { board, player } => judge_table(table, board, player, setup),
+    match read_sheet(sheet, table) {
+        Ok(head) => judge_table(table, head),
+        Err(verdict) => verdict,
     }
 }
 
-// The same, with the table cleared.
-fn judge_cleared(sheet: &[u8], table: &mut [u32]) -> Verdict
-    requires { length table.old ≡ least_workspace }
-    ensures { (result ≡ judge least_workspace sheet.now) × (table.new ≡ replicate least_workspace 0) }
+// Runs on the first 8,192 numbers of the workspace, and then clears them; nothing is run where there are fewer. What runs is lent, so that
+// the room that it wrote to is known when it is back.
+fn on_table<R, F: FnMut(&mut [u32; 8192]) -> R>(workspace: &mut [u32], run: &mut F) -> Option<R>
+    requires { F.IsAlwaysCallable run.old }
+    ensures { RanOn (CalledAtMut F.FnMut run.old) workspace.old result run.old run.new workspace.new }
 {
-    let verdict = judge_text(sheet, table);
+    let table = workspace.first_chunk_mut::<8192>()?;
+    let answer = run(table);
     clear(table);
-    verdict
+    Some(answer)
 }
 
 // Judge takes a sheet and answers a verdict.
 pub fn judge(sheet: &[u8], workspace: &mut [u32]) -> Verdict
     ensures { JudgeKept workspace.old sheet.now result workspace.new }
 {
-    if workspace.len() < 8192 {
-        return Verdict::SmallWorkspace;
-    }
-    judge_cleared(sheet, &mut workspace[0..8192])
+    let mut run = |table: &mut [u32; 8192]| judge_text(sheet, table);
+    on_table(workspace, &mut run).unwrap_or(Verdict::SmallWorkspace)
 }
 
-// A refusal of outcome lists no cells.
-fn unnamed(verdict: Verdict) -> Named
-    ensures { result ≡ outcome_shown (named (refused verdict)) }
+// Lists the own set-up stones and the cells of the outcome with a number of the sheet in the table, and returns their number: or 14.
+fn list_outcome(
+    table: &[u32],
+    grid: Grid,
+    own: Cells,
+    number: usize,
+    room: &mut [u32],
+) -> Result<usize, Verdict>
+    requires { SomeOutcome table.now grid.board own.rows number }
+    ensures { (s : Sheet) → HasOutcome table.now grid.board own.rows s number → NamedKept (named (listing s number (length room.old))) room.old (as_named result) room.new }
 {
-    Named { verdict, cells: 0 }
+    let cells = pick_move(table, grid, 0, number, own);
+    if room.len() < cells.count(grid) {
+        return Err(Verdict::ShortRoom);
+    }
+    Ok(cells.list(grid, room))
 }
 
-// Lists the own set-up stones and the cells of the outcome with a number of the sheet in the table: 14, or done.
-fn list_outcome(table: &[u32], board: Board, own: Cells, number: usize, room: &mut [u32]) -> Named
-    requires { SomeOutcome table.now board own.rows number }
-    ensures { (s : Sheet) → HasOutcome table.now board own.rows s number → NamedKept (named (listing s number (length room.old))) room.old result room.new }
-{
-    let cells = pick_move(table, board, 0, number, own);
-    if room.len() < cells.count(board) {
-        return unnamed(Verdict::ShortRoom);
-    }
-    let listed = cells.list(board, room);
-    Named {
-        verdict: Verdict::Done,
-        cells: listed,
-    }
-}
-
-// Names an outcome of the sheet in the table: 20, 10, 24, 11, 12, 18, 14, or done.
+// Names an outcome of the sheet in the table: or 20, 10, 24, 11, 12, 18, 14.
 fn name_outcome(
     table: &mut [u32],
-    board: Board,
-    setup: SetUp,
+    head: Head,
     number: u32,
     room: &mut [u32],
-) -> Named
-    requires { SomeWhole table.old board setup }
-    ensures { (s : Sheet) → HoldsWhole table.old board setup s → NamedKept (named (naming s number (length room.old))) room.old result room.new }
+) -> Result<usize, Verdict>
+    requires { SomeWhole table.old head.grid.board head.set_up }
+    ensures { (s : Sheet) → HoldsWhole table.old head.grid.board head.set_up s → NamedKept (named (naming s number (length room.old))) room.old (as_named result) room.new }
 {
-    let read = fair_sheet(table, board, setup);
-    match read {
-        FairRead::Refused { verdict } => unnamed(verdict),
-        FairRead::Got { outcomes, idle: _ } => {
-            if outcomes <= number {
-                return unnamed(Verdict::NoSuchOutcome);
-            }
-            let own = setup.own;
-            list_outcome(table, board, own, number as usize, room)
-        }
+    let fair = fair_sheet(table, head)?;
+    if fair.outcomes <= number {
+        return Err(Verdict::NoSuchOutcome);
     }
+    list_outcome(
+        table,
+        head.grid,
+        head.set_up.stones.own,
+        number as usize,
+        room,
+    )
 }
 
 // Names an outcome of a sheet that is read into the table.
-fn outcome_text(sheet: &[u8], number: u32, room: &mut [u32], table: &mut [u32]) -> Named
-    requires { length table.old ≡ least_workspace }
-    ensures { NamedKept (outcome least_workspace sheet.now number (length room.old)) room.old result room.new }
+fn outcome_text(
+    sheet: &[u8],
+    number: u32,
+    room: &mut [u32],
+    table: &mut [u32; 8192],
+) -> Result<usize, Verdict>
+    ensures { NamedKept (outcome least_workspace sheet.now number (length room.old)) room.old (as_named result) room.new }
 {
-    let loaded = read_sheet(sheet, table);
-    let read = loaded.read;
-    let setup = loaded.setup;
-    match read {
-        SheetRead::Refused { verdict } => unnamed(verdict),
-        SheetRead::Got { board, player: _ } => name_outcome(table, board, setup, number, room),
-    }
+    let head = read_sheet(sheet, table)?;
+    name_outcome(table, head, number, room)
 }
 
-// The same, with the table cleared.
-fn outcome_cleared(sheet: &[u8], number: u32, room: &mut [u32], table: &mut [u32]) -> Named
-    requires { length table.old ≡ least_workspace }
-    ensures { NamedKept (outcome least_workspace sheet.now number (length room.old)) room.old result room.new × (table.new ≡ replicate least_workspace 0) }
+// What outcome returns: a refusal lists no cells. (No From: neither type is of this crate.)
+fn shown_named(answer: Result<usize, Verdict>) -> Named
+    ensures { result ≡ as_named answer }
 {
-    let named = outcome_text(sheet, number, room, table);
-    clear(table);
-    named
+    match answer {
+        Ok(cells) => Named {
+            verdict: Verdict::Done,
+            cells,
+        },
+        Err(verdict) => Named { verdict, cells: 0 },
+    }
 }
 
 // Outcome takes a sheet, an outcome's number and room for its cells, listed in ascending order.
 pub fn outcome(sheet: &[u8], number: u32, room: &mut [u32], workspace: &mut [u32]) -> Named
     ensures { OutcomeKept workspace.old sheet.now number room.old result workspace.new room.new }
 {
-    if workspace.len() < 8192 {
-        return unnamed(Verdict::SmallWorkspace);
-    }
-    outcome_cleared(sheet, number, room, &mut workspace[0..8192])
+    let mut run = |table: &mut [u32; 8192]| outcome_text(sheet, number, room, table);
+    let answer = on_table(workspace, &mut run).unwrap_or(Err(Verdict::SmallWorkspace));
+    shown_named(answer)
 }
 
-// A refusal of play, at a place of the move list or at 0, gives no answers.
-fn unplayed(verdict: Verdict, place: usize) -> Played
-    ensures { result ≡ play_shown (refused_play verdict place) }
-{
-    Played {
-        verdict,
-        place,
-        answers: 0,
-        over: false,
-    }
-}
-
-// Copies the first answers into the first places of the room.
-fn write_answers(answers: &[u32], many: usize, room: &mut [u32])
-    requires { (many ≤ length answers.now) × (many ≤ length room.old) }
-    ensures { Copied answers.now room.old many room.new }
-{
-    for i in 0..many {
-        room[i] = answers[i];
-    }
-}
-
-// Plays the moves on the accepted sheet in the table: 15, 16, 17, or done. The answers are kept apart until no move is refused.
-fn play_apart(
-    table: &mut [u32],
-    board: Board,
-    player: Player,
-    own: Cells,
-    opp: Cells,
-    moves: &[u32],
-    answers: &mut [u32],
-    room: &mut [u32],
-) -> Played
-    requires holds { SomePlayable table.old board player own opp }
-    requires kept { most_nodes ≤ length answers.old }
-    requires enough { length moves.now ≤ length room.old }
-    ensures { (s : Sheet) → Playable table.old board player s → HeldStones board s.set_up own opp → PlayedKept (played_out s (rounds s (start s) 1 moves.now)) room.old result room.new }
-{
-    let played = play_moves(table, board, player, own, opp, moves, answers);
-    match played {
-        PlayedOut::Stopped { verdict, place } => unplayed(verdict, place),
-        PlayedOut::Played {
-            answers: many,
-            over,
-        } => {
-            write_answers(answers, many, room);
-            Played {
-                verdict: Verdict::Done,
-                place: 0,
-                answers: many,
-                over,
-            }
-        }
-    }
-}
-
-// The same, with a place for the answer of each wait that a sheet can have.
+// Plays the moves on the accepted sheet in the table: or 15, 16, 17. The answers are kept apart until no move is refused, with a place for
+// the answer of each wait that a sheet can have.
 fn play_table(
     table: &mut [u32],
-    board: Board,
-    player: Player,
-    own: Cells,
-    opp: Cells,
+    head: Head,
     moves: &[u32],
     room: &mut [u32],
-) -> Played
-    requires holds { SomePlayable table.old board player own opp }
+) -> Result<PlayedOut, Stopped>
+    requires holds { SomePlayable table.old head.grid.board head.player head.set_up.stones.own head.set_up.stones.opp }
     requires enough { length moves.now ≤ length room.old }
-    ensures { (s : Sheet) → Playable table.old board player s → HeldStones board s.set_up own opp → PlayedKept (played_out s (rounds s (start s) 1 moves.now)) room.old result room.new }
+    ensures { (s : Sheet) → Playable table.old head.grid.board head.player s → HeldStones head.grid.board s.set_up head.set_up.stones.own head.set_up.stones.opp → PlayedKept (played_out s (rounds s (start s) 1 moves.now)) room.old (as_played result) room.new }
 {
     let mut answers = [0u32; 2048];
-    play_apart(table, board, player, own, opp, moves, &mut answers, room)
+    let played = play_moves(
+        table,
+        head.grid,
+        head.player,
+        head.set_up.stones,
+        moves,
+        &mut answers,
+    )?;
+    room[..played.answers].copy_from_slice(&answers[..played.answers]);
+    Ok(played)
 }
 
 // Reads a sheet again where moves were taken out of the table: the answering rule looks at every line.
-fn whole_again(sheet: &[u8], table: &mut [u32], idle: u32)
-    requires { length table.old ≡ least_workspace }
+fn whole_again(sheet: &[u8], table: &mut [u32; 8192], idle: u32)
     ensures { (b : declared.Board) (s : Sheet) → read_text sheet.now ≡ got s → KeepsLive table.old b s idle → HoldsSheet table.new b s }
 {
     if idle != 0 {
-        read_sheet(sheet, table);
+        let _ = read_sheet(sheet, table);
     }
 }
 
-// Whether the sheet that was read into the table is accepted: 20, 10, 24, 11, 12, 13. If so its whole tree is in the table.
-fn ready_sheet(
-    sheet: &[u8],
-    table: &mut [u32],
-    board: Board,
-    player: Player,
-    setup: SetUp,
-) -> SheetRead
-    requires { SheetHeld sheet.now table.old board player setup }
-    ensures { ReadyReply sheet.now result setup table.new }
+// Reads a sheet into the table: or 2 to 9, and 19; then 20, 10, 24, 11, 12, 13. If it is accepted its whole tree is in the table.
+fn ready_text(sheet: &[u8], table: &mut [u32; 8192]) -> Result<Head, Verdict>
+    ensures { ReadyReply sheet.now result table.new }
 {
-    let accepted = accept_sheet(table, board, player, setup);
-    match accepted {
-        AcceptedRead::Refused { verdict } => SheetRead::Refused { verdict },
-        AcceptedRead::Got {
-            outcomes: _,
-            passed: _,
-            idle,
-        } => {
-            whole_again(sheet, table, idle);
-            SheetRead::Got { board, player }
-        }
-    }
+    let head = read_sheet(sheet, table)?;
+    let accepted = accept_sheet(table, head)?;
+    whole_again(sheet, table, accepted.idle);
+    Ok(head)
 }
 
-// Reads a sheet into the table: 2 to 9, and 19; then 20, 10, 24, 11, 12, 13. If it is accepted its whole tree is in the table.
-fn ready_text(sheet: &[u8], table: &mut [u32]) -> Loaded
-    requires { length table.old ≡ least_workspace }
-    ensures { ReadyReply sheet.now result.read result.setup table.new }
-{
-    let loaded = read_sheet(sheet, table);
-    let read = loaded.read;
-    let setup = loaded.setup;
-    match read {
-        SheetRead::Refused { verdict } => Loaded {
-            read: SheetRead::Refused { verdict },
-            setup,
-        },
-        SheetRead::Got { board, player } => {
-            let read = ready_sheet(sheet, table, board, player, setup);
-            Loaded { read, setup }
-        }
-    }
-}
-
-// Plays the accepted sheet in the table: 14, and then for each move in turn 15, 16, 17; or done.
+// Plays the accepted sheet in the table: or 14, and then for each move in turn 15, 16, 17.
 fn play_sheet(
     table: &mut [u32],
-    board: Board,
-    player: Player,
-    setup: SetUp,
+    head: Head,
     moves: &[u32],
     room: &mut [u32],
-) -> Played
-    requires { SomeReady table.old board player setup }
-    ensures { (text : Bytes) → ReadyHeld text table.old board player setup → PlayedKept (play least_workspace text moves.now (length room.old)) room.old result room.new }
+) -> Result<PlayedOut, Stopped>
+    requires { SomeReady table.old head }
+    ensures { (text : Bytes) → ReadyHeld text table.old head → PlayedKept (play least_workspace text moves.now (length room.old)) room.old (as_played result) room.new }
 {
     if room.len() < moves.len() {
-        return unplayed(Verdict::ShortRoom, 0);
+        return Err(Stopped::from(Verdict::ShortRoom));
     }
-    let own = setup.own;
-    let opp = setup.opp;
-    play_table(table, board, player, own, opp, moves, room)
+    play_table(table, head, moves, room)
 }
 
 // Plays a sheet that is read into the table.
-fn play_text(sheet: &[u8], moves: &[u32], room: &mut [u32], table: &mut [u32]) -> Played
-    requires { length table.old ≡ least_workspace }
-    ensures { PlayedKept (play least_workspace sheet.now moves.now (length room.old)) room.old result room.new }
+fn play_text(
+    sheet: &[u8],
+    moves: &[u32],
+    room: &mut [u32],
+    table: &mut [u32; 8192],
+) -> Result<PlayedOut, Stopped>
+    ensures { PlayedKept (play least_workspace sheet.now moves.now (length room.old)) room.old (as_played result) room.new }
 {
-    let ready = ready_text(sheet, table);
-    let read = ready.read;
-    let setup = ready.setup;
-    match read {
-        SheetRead::Refused { verdict } => unplayed(verdict, 0),
-        SheetRead::Got { board, player } => play_sheet(table, board, player, setup, moves, room),
-    }
+    let head = ready_text(sheet, table)?;
+    play_sheet(table, head, moves, room)
 }
 
-// The same, with the table cleared.
-fn play_cleared(sheet: &[u8], moves: &[u32], room: &mut [u32], table: &mut [u32]) -> Played
-    requires { length table.old ≡ least_workspace }
-    ensures { PlayedKept (play least_workspace sheet.now moves.now (length room.old)) room.old result room.new × (table.new ≡ replicate least_workspace 0) }
+// What play returns: a refusal gives no answers. (No From: neither type is of this crate.)
+fn shown_played(answer: Result<PlayedOut, Stopped>) -> Played
+    ensures { result ≡ as_played answer }
 {
-    let played = play_text(sheet, moves, room, table);
-    clear(table);
-    played
+    match answer {
+        Ok(played) => Played {
+            verdict: Verdict::Done,
+            place: 0,
+            answers: played.answers,
+            over: played.over,
+        },
+        Err(stopped) => Played {
+            verdict: stopped.verdict,
+            place: stopped.place,
+            answers: 0,
+            over: false,
+        },
+    }
 }
 
 // Play takes a sheet, a list of opponent cell numbers and room for answers.
 pub fn play(sheet: &[u8], moves: &[u32], room: &mut [u32], workspace: &mut [u32]) -> Played
     ensures { PlayKept workspace.old sheet.now moves.now room.old result workspace.new room.new }
 {
-    if workspace.len() < 8192 {
-        return unplayed(Verdict::SmallWorkspace, 0);
-    }
-    play_cleared(sheet, moves, room, &mut workspace[0..8192])
+    let mut run = |table: &mut [u32; 8192]| play_text(sheet, moves, room, table);
+    let answer = on_table(workspace, &mut run).unwrap_or(Err(Stopped::from(
+        Verdict::SmallWorkspace,
+    )));
+    shown_played(answer)
 }

@@ -1,11 +1,12 @@
 // sorbitanque: the three entries for programs in other languages, on numbers and slices. Each function puts the numbers of its reply into
-// places that are lent: seven, or nine with all counts. It sees rules, sheet and report.
+// places that are lent: seven, or nine with all counts, as the C interface has it. It sees rules, sheet and report.
 
 #![tactic(auto)]
 
 ghost use Rattle.sorbitanque.specs.Details.{judge_details, counts_details, JudgeTold, OutcomeTold, PlayTold};
 
-use report::{one_if, tell, tell_all};
+use report::tell_all;
+use rules::Told;
 use sheet::{judge, outcome, play};
 
 // Judges a sheet: verdict, line, cell, index, moves, waits, outcomes.
@@ -13,7 +14,7 @@ use sheet::{judge, outcome, play};
 pub extern "C" fn sorbitanque_judge(sheet: &[u8], workspace: &mut [u32], details: &mut [u32; 7])
     ensures { JudgeTold judge_details workspace.old sheet.now workspace.new details.new }
 {
-    let told = tell(judge(sheet, workspace));
+    let told = Told::from(judge(sheet, workspace));
     let counts = told.counts;
     *details = [
         told.number,
@@ -46,8 +47,7 @@ pub extern "C" fn sorbitanque_outcome(
     ensures { OutcomeTold workspace.old sheet.now number room.old workspace.new room.new details.new }
 {
     let named = outcome(sheet, number, room, workspace);
-    let verdict = named.verdict;
-    let told = tell(verdict);
+    let told = Told::from(named.verdict);
     *details = [
         told.number,
         told.line,
@@ -71,9 +71,8 @@ pub extern "C" fn sorbitanque_play(
     ensures { PlayTold workspace.old sheet.now moves.now room.old workspace.new room.new details.new }
 {
     let played = play(sheet, moves, room, workspace);
-    let verdict = played.verdict;
-    let told = tell(verdict);
-    let over = one_if(played.over);
+    let told = Told::from(played.verdict);
+    let over = u32::from(played.over);
     *details = [
         told.number,
         told.line,

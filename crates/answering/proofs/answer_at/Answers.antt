@@ -1,12 +1,20 @@
 -- Where an open wait holds the cell, the answer is under it; otherwise it is the first move under the first open wait.
 use Rattle.std.proofs.Common.{arith, sym, ◌∙◌}
+use Rattle.std.proofs.lemmas.Option.{same_Some}
 use Rattle.answering.proofs.Choosing.{answer_touched, answer_free, free_waiting}
+use Rattle.answering.proofs.Searching.{waiting_first}
 use Rattle.answering.proofs.answer_at.Goals as goal
+
+pub unwrap-first-requires : goal.unwrap-first-requires
+unwrap-first-requires c =
+    let p = c.requires.1 in
+    let f = answer_free _ p.4 (c.in_default.ensures _ _ _ p.4.are_open) in
+    rw (waiting_first _ c.first_open.ensures (free_waiting _ p.4 f))
 
 pub returns-in_default : goal.returns-in_default
 returns-in_default c n₁ b ws k a =
     let f = answer_free _ a (c.in_default.ensures n₁ b ws a.are_open) in
-    let g = c.first_open-first.ensures _ _ _ _ _ (free_waiting _ a f) in
+    let g = same_Some _ _ (sym c.unwrap-first.ensures ∙ waiting_first _ c.first_open.ensures (free_waiting _ a f)) in
     record { wait_is = g ∙ sym f.wait_is; move_is = omega (arith, g, f.move_is) }
 
 pub overflow_add-first : goal.overflow_add-first

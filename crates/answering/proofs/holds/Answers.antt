@@ -1,4 +1,4 @@
--- `answering::holds` meets its contract: each turn tests one more node.
+-- Each turn tests one more node.
 use Rattle.std.proofs.Common.{sym, ◌∙◌, refl}
 use Rattle.answering.proofs.Holding.{holding_starts, holding_found, holding_again, holding_done}
 use Rattle.answering.proofs.holds.Goals as goal

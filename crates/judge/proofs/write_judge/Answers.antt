@@ -3,4 +3,4 @@ use Rattle.report.proofs.Line.{wrote_judge}
 use Rattle.judge.proofs.write_judge.Goals as goal
 
 pub returns : goal.returns
-returns c = wrote_judge c.judge-verdict.ensures c.report.ensures
+returns c = rw c.told-workspace at (wrote_judge c.judge-verdict.ensures c.report.ensures)

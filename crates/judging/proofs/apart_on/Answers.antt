@@ -1,9 +1,10 @@
--- `apart_on` meets its contract: 10, or what the checks after it tell.
-use Rattle.judging.proofs.Fairness.{not_apart_told, apart_told}
+-- `apart_on` meets its contract: 10, or passed.
+use Rattle.rules.specs.declared.Verdict.TheVariants.{NotApart}
+use Rattle.judging.proofs.Fairness.{found_told, no_fault}
 use Rattle.judging.proofs.apart_on.Goals as goal
 
-pub returns-in-At : goal.returns-in-At
-returns-in-At c = λ s h on. not_apart_told h _ on _ (c.not_apart.ensures s h) _ _ _ c.in-At.is c.line_of-line.ensures
+pub returns-in-None : goal.returns-in-None
+returns-in-None c = λ s h. no_fault NotApart (c.in-None.ensures s h.tree)
 
-pub returns : goal.returns
-returns c = λ s h on. apart_told h _ on _ (c.not_apart.ensures s h) c.in_default.is c.single_on.result (c.single_on.ensures s h on)
+pub returns-in-Some : goal.returns-in-Some
+returns-in-Some c = λ s h. found_told NotApart _ (c.in-Some.ensures s h.tree) h.set_up.first_is c.line_of.ensures

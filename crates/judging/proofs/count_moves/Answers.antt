@@ -1,30 +1,18 @@
--- `count_moves` counts one node at each turn.
-use Rattle.std.proofs.Common.{sym, ◌∙◌, arith}
-use Rattle.fair.proofs.WhichKind.{node_room}
-use Rattle.fair.proofs.Adding.{adding_starts, adding_node, adding_few, adding_done}
-use Rattle.judging.proofs.Counting.{moves_sum, one_here, counting_move, counting_wait}
+-- `count_moves` counts the nodes that are moves.
+use Rattle.std.proofs.Common.{ℕ, ◌+◌, ◌*◌, ◌<◌, length, ◌∙◌, rules, arith}
+use Rattle.std.proofs.lemmas.Iterator.{YieldsList-from_range, serves_from_Range}
+use Rattle.std.proofs.lemmas.Iterator.Consumers.{YieldsList-from_filter, count_from_yields_List}
+use Rattle.nodes.specs.Table.{is_move_at}
+use Rattle.judging.proofs.Counting.{node_room, moves_counted}
 use Rattle.judging.proofs.count_moves.Goals as goal
-use Rattle.judging.proofs.count_moves.Goals.{then-is_move, else-is_move}
 
-pub loop-i-init : goal.loop-i-init
-loop-i-init c = λ b. adding_starts moves_sum b _ _ c.end_at-end.ensures
-
-pub is_move-requires : goal.is_move-requires
-is_move-requires c = node_room (adding_node moves_sum (c.loop-i.invariant c.requires.0) (omega arith) c.requires.1.held)
-
-pub overflow_add-moves : goal.overflow_add-moves
-overflow_add-moves c =
-    let s = c.requires in
-    let told = sym c.is_move.ensures ∙ c.if-is_move.true in
-    omega (arith, adding_few moves_sum (c.loop-i.invariant s.0) (omega arith) (one_here told) s.1.sheet s.1.held, s.1.held.well.few_nodes)
-
-pub loop-i-preserved : goal.loop-i-preserved
-loop-i-preserved c = λ b.
-    let l = c.loop-i.invariant b in
-    elim c.if-is_move.branch [
-      | then-is_move w ↦ rw w.moves-is (counting_move l (omega arith) (sym c.is_move.ensures ∙ w.if-is_move.true))
-      | else-is_move w ↦ rw w.moves-is (counting_wait l (omega arith) (sym c.is_move.ensures ∙ w.if-is_move.false))
-    ]
+pub count-requires-clause-can : goal.count-requires-clause-can
+count-requires-clause-can c =
+    let room : (i : ℕ) → i < c.end_at.result → 4 * i + 3 < length c.args.table.now = λ i p. node_room c.requires.1.held c.end_at.ensures p in
+    (tt, tt, serves_from_Range (λ x q k. search rules) (λ x p q. let r = room x (search rules) in search (rules, r)))
 
 pub returns : goal.returns
-returns c = λ b s h. adding_done moves_sum (c.loop-i.invariant b) (omega arith) s h
+returns c = λ b s h.
+    count_from_yields_List _ _ c.count.ensures.ran
+    (YieldsList-from_filter _ (is_move_at c.args.table.now) (YieldsList-from_range 0 c.end_at.result c.end_at.result (cc) (omega arith)) c.filter.ensures.closure (λ x r q k. search rules))
+    ∙ moves_counted h c.end_at.ensures

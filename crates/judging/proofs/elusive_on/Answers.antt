@@ -1,9 +1,7 @@
--- `elusive_on` meets its contract: 11, or passed.
-use Rattle.judging.proofs.Fairness.{not_elusive_told, elusive_told}
+-- `elusive_on` meets its contract: 11, or how many moves aren't live.
+use Rattle.std.proofs.Common.{rules}
+use Rattle.judging.proofs.Fairness.{elusive_told}
 use Rattle.judging.proofs.elusive_on.Goals as goal
 
-pub returns-in-Not : goal.returns-in-Not
-returns-in-Not c = λ s h on. not_elusive_told h _ on _ _ _ (c.in-Not.ensures s h) c.line_of-line.ensures
-
-pub returns-in-All : goal.returns-in-All
-returns-in-All c = λ s h on. let k = c.in-All.ensures s h in elusive_told h _ on k.0 _ k.1
+pub returns : goal.returns
+returns c = λ s h. elusive_told s c.not_elusive.result c.map_err.result _ (c.not_elusive.ensures s h.tree) h.set_up.first_is (λ f v k. search rules) c.map_err.ensures.cases

@@ -1,19 +1,18 @@
--- `free_on` meets its contract: 20, or what the checks after it tell.
-use Rattle.judging.proofs.Fairness.{all_stones, fault_low, not_free_told, free_told}
+-- `free_on` meets its contract: 20, or passed.
+use Rattle.rules.specs.declared.Verdict.TheVariants.{OnSetUp}
+use Rattle.judging.proofs.Fairness.{found_told, no_fault, all_stones, none_told}
 use Rattle.judging.proofs.free_on.Goals as goal
 
-pub line_of-line-requires : goal.line_of-line-requires
-line_of-line-requires c =
+pub returns-then-no_stone : goal.returns-then-no_stone
+returns-then-no_stone c = λ s h. none_told h c.if-no_stone.true
+
+pub line_of-requires : goal.line_of-requires
+line_of-requires c =
     let pre = c.requires in
-    let stones = all_stones pre.whole.set_up _ (c.union-stones.ensures _) in
-    (fault_low (c.on_set_up.ensures pre.sheet pre.whole.tree stones) c.in-At.is, pre.whole.set_up.low)
+    ((c.in-Some.ensures pre.sheet pre.whole.tree (all_stones pre.whole.set_up _ (c.union.ensures _))).low, pre.whole.set_up.low)
 
-pub returns-in-At : goal.returns-in-At
-returns-in-At c = λ s h.
-    let stones = all_stones h.set_up _ (c.union-stones.ensures _) in
-    not_free_told h.tree _ h.set_up.first_is _ (c.on_set_up.ensures s h.tree stones) _ _ _ c.in-At.is c.line_of-line.ensures
+pub returns-in-None : goal.returns-in-None
+returns-in-None c = λ s h. no_fault OnSetUp (c.in-None.ensures s h.tree (all_stones h.set_up _ (c.union.ensures _)))
 
-pub returns : goal.returns
-returns c = λ s h.
-    let stones = all_stones h.set_up _ (c.union-stones.ensures _) in
-    free_told h.tree _ h.set_up.first_is _ (c.on_set_up.ensures s h.tree stones) c.in_default.is c.apart_on.result (c.apart_on.ensures s h.tree h.set_up.first_is)
+pub returns-in-Some : goal.returns-in-Some
+returns-in-Some c = λ s h. found_told OnSetUp _ (c.in-Some.ensures s h.tree (all_stones h.set_up _ (c.union.ensures _))) h.set_up.first_is c.line_of.ensures

@@ -1,9 +1,10 @@
--- `single_on` meets its contract: 24, or what the checks after it tell.
-use Rattle.judging.proofs.Fairness.{twice_told, single_told}
+-- `single_on` meets its contract: 24, or passed.
+use Rattle.rules.specs.declared.Verdict.TheVariants.{SameBranch}
+use Rattle.judging.proofs.Fairness.{found_told, no_fault}
 use Rattle.judging.proofs.single_on.Goals as goal
 
-pub returns-in-At : goal.returns-in-At
-returns-in-At c = λ s h on. twice_told h _ on _ (c.branch_twice.ensures _ s h) _ _ _ c.in-At.is c.line_of-line.ensures
+pub returns-in-None : goal.returns-in-None
+returns-in-None c = λ s h. no_fault (λ line cell. SameBranch line) (c.in-None.ensures _ s h.tree)
 
-pub returns : goal.returns
-returns c = λ s h on. single_told h _ on _ (c.branch_twice.ensures _ s h) c.in_default.is c.elusive_on.result (c.elusive_on.ensures s h on)
+pub returns-in-Some : goal.returns-in-Some
+returns-in-Some c = λ s h. found_told (λ line cell. SameBranch line) _ (c.in-Some.ensures _ s h.tree) h.set_up.first_is c.line_of.ensures

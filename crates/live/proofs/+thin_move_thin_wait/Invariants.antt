@@ -9,14 +9,14 @@ decreases-thin_move l = length l.t.now - l.from
 abbrev pub decreases-thin_wait : goal.decreases-thin_wait
 decreases-thin_wait l = length l.t.now - l.from
 
-abbrev pub invariant-thin_move-loop-j : goal.invariant-thin_move-loop-j
-invariant-thin_move-loop-j l = WaitsGoing l.board l.initial.t l.t l.from l.to l.under l.next l.out l.j
+abbrev pub invariant-thin_move-loop : goal.invariant-thin_move-loop
+invariant-thin_move-loop l = WaitsGoing l.grid.board l.initial.t l.t l.from l.to l.under l.next l.out l.counter
 
-abbrev pub decreases-thin_move-loop-j : goal.decreases-thin_move-loop-j
-decreases-thin_move-loop-j l = l.under - l.j
+abbrev pub decreases-thin_move-loop : goal.decreases-thin_move-loop
+decreases-thin_move-loop l = l.under - l.counter
 
-abbrev pub invariant-thin_wait-loop-j : goal.invariant-thin_wait-loop-j
-invariant-thin_wait-loop-j l = MovesGoing l.board l.initial.t l.t l.from l.to l.under l.next l.out l.j l.common l.kept
+abbrev pub invariant-thin_wait-loop : goal.invariant-thin_wait-loop
+invariant-thin_wait-loop l = MovesGoing l.grid.board l.initial.t l.t l.from l.to l.under l.next l.out l.counter l.common l.kept
 
-abbrev pub decreases-thin_wait-loop-j : goal.decreases-thin_wait-loop-j
-decreases-thin_wait-loop-j l = l.under - l.j
+abbrev pub decreases-thin_wait-loop : goal.decreases-thin_wait-loop
+decreases-thin_wait-loop l = l.under - l.counter

@@ -3,8 +3,8 @@ use Rattle.std.proofs.Common.{◌-◌}
 use Rattle.live.proofs.Idle.{Counting}
 use Rattle.live.proofs.look.Given as goal
 
-abbrev pub invariant-loop-j : goal.invariant-loop-j
-invariant-loop-j l = Counting l.board l.t l.i l.under l.next l.j l.common l.idle
+abbrev pub invariant-loop : goal.invariant-loop
+invariant-loop l = Counting l.grid.board l.t l.i l.under l.next l.counter l.common l.live
 
-abbrev pub decreases-loop-j : goal.decreases-loop-j
-decreases-loop-j l = l.under - l.j
+abbrev pub decreases-loop : goal.decreases-loop
+decreases-loop l = l.under - l.counter

@@ -7,4 +7,4 @@ pub returns-then-is_move : goal.returns-then-is_move
 returns-then-is_move c = move_told (sym c.is_move.ensures ∙ c.if-is_move.true)
 
 pub returns : goal.returns
-returns c = wait_told (sym c.is_move.ensures ∙ c.if-is_move.false) c.look.ensures
+returns c = wait_told _ (sym c.is_move.ensures ∙ c.if-is_move.false) c.look.ensures

@@ -1,10 +1,11 @@
--- Each node passed has no faulty cell, and its moves that aren't live are added up.
-use Rattle.rules.specs.Fair.{not_elusive, first_not_elusive}
-use Rattle.fair.specs.Faults.{at_waits}
-use Rattle.fair.proofs.Search.{least_fault, Searching}
+-- No node passed has a fault, and their moves that aren't live are added up.
+use Rattle.std.proofs.Common.{ℕ, ◌<◌}
+use Rattle.std.specs.Prelude as code
+use Rattle.rules.specs.Fair.{not_elusive}
+use Rattle.fair.specs.Faults.{at_waits, FaultAt}
 use Rattle.fair.proofs.Adding.{Adding}
 use Rattle.live.proofs.Idle.{idle_sum}
 use Rattle.live.proofs.not_elusive.Given as goal
 
 abbrev pub invariant-loop-i : goal.invariant-loop-i
-invariant-loop-i l = Searching first_not_elusive (least_fault (at_waits not_elusive)) l.board l.t l.i l.end × Adding idle_sum l.board l.t l.i l.end l.idle
+invariant-loop-i l = ((j : ℕ) → j < l.i → FaultAt (at_waits not_elusive) l.grid.board l.t j code.None) × Adding idle_sum l.grid.board l.t l.i l.end l.idle

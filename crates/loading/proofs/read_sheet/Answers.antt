@@ -1,35 +1,27 @@
 -- The text is too long, its first line is no header, its body is refused, or the table holds the sheet.
-use mathlib.Core.Path.{◌∙◌}
-use native.Mathlib.Omega.{arith}
-use Rattle.lines.specs.Seen.{header_seen}
-use Rattle.lines.proofs.Steps.{seen}
-use Rattle.loading.proofs.Reading.{header_body, part_within, text_long, text_headless, body_ready, text_refused, tree_stands, text_held}
+use Rattle.std.proofs.Common.{refl, arith}
+use Rattle.std.proofs.lemmas.Result.{err_from_is_err_and}
+use Rattle.loading.proofs.Reading.{text_long, text_headless, header_fits, text_refused, tree_stands, text_held}
 use Rattle.loading.proofs.read_sheet.Goals as goal
 
-pub returns-then-sheet-gt32768 : goal.returns-then-sheet-gt32768
-returns-then-sheet-gt32768 c = text_long _ _ _ c.if-sheet-gt32768.true c.unloaded.ensures
+pub returns-then-sheet-gt-MOST_BYTES : goal.returns-then-sheet-gt-MOST_BYTES
+returns-then-sheet-gt-MOST_BYTES c = text_long _ _ c.if-sheet-gt-MOST_BYTES.true
 
 pub returns-in_default : goal.returns-in_default
-returns-in_default c =
-    text_headless _ (omega arith) _ _ (seen header_seen c.header_line.ensures c.in_default.is).same c.unloaded-in_default.ensures
+returns-in_default c = text_headless _ (omega arith) _ c.in_default.ensures.same
 
-pub read_body-read-requires : goal.read_body-read-requires
-read_body-read-requires c =
-    body_ready _ (omega arith) _ _ _ (header_body _ _ _ (seen header_seen c.header_line.ensures c.in-Got.is)) _
-    (part_within c.args.sheet.now c.in-Got.end) c.requires
+pub invariant_of-grid : goal.invariant_of-grid
+invariant_of-grid c = record { fits = header_fits _ _ _ c.in-Some.ensures.same }
+
+pub returns-in_err-set_up : goal.returns-in_err-set_up
+returns-in_err-set_up c =
+    let p = err_from_is_err_and c.from_residual.result c.from_residual.ensures.1 in
+    rw (p.1, p.2) (text_refused _ (omega arith) _ _ _ c.in-Some.ensures.same _ _ _ c.in_err-set_up.ensures)
 
 pub weigh_move-requires-clause-stands : goal.weigh_move-requires-clause-stands
-weigh_move-requires-clause-stands c =
-    tree_stands _ (omega arith) _ _ _ (header_body _ _ _ (seen header_seen c.header_line.ensures c.in-Got.is)) _ _ _
-    c.read_body-read.ensures _ c.in-Got-tree.is
+weigh_move-requires-clause-stands c = tree_stands _ (omega arith) _ _ _ c.in-Some.ensures.same _ _ _ c.in_ok-set_up.ensures
 
-pub returns-in-Refused : goal.returns-in-Refused
-returns-in-Refused c =
-    text_refused _ (omega arith) _ _ _ (header_body _ _ _ (seen header_seen c.header_line.ensures c.in-Got.is)) _ _ _
-    c.read_body-read.ensures _ _ c.in-Refused.is c.unloaded-in-Refused.ensures
-
-pub returns-in-Got-tree : goal.returns-in-Got-tree
-returns-in-Got-tree c =
-    text_held _ (omega arith) _ _ _ (header_body _ _ _ (seen header_seen c.header_line.ensures c.in-Got.is)) _ _ _
-    c.read_body-read.ensures _ c.in-Got-tree.is _ _ _ (c.read_body-read.auto.table ∙ c.requires) c.weigh_move.ensures
-    (part_within c.args.sheet.now c.in-Got.end)
+pub returns : goal.returns
+returns c =
+    text_held _ (omega arith) _ _ _ c.in-Some.ensures.same _ _ _ c.in_ok-set_up.ensures _ _ _ c.read_body.array_long c.weigh_move.ensures
+    (omega (arith, c.in-Some.ensures.shorter)) _ refl

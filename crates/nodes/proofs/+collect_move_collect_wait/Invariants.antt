@@ -10,14 +10,8 @@ decreases-collect_move l = length l.t.now - l.i
 abbrev pub decreases-collect_wait : goal.decreases-collect_wait
 decreases-collect_wait l = length l.t.now - l.i
 
-abbrev pub invariant-collect_move-loop-j : goal.invariant-collect_move-loop-j
-invariant-collect_move-loop-j l = Collecting a_move l.board l.t l.initial.so_far.cells.rows l.so_far.cells.rows l.i l.under l.so_far.next l.j
+abbrev pub invariant-collect_move-loop : goal.invariant-collect_move-loop
+invariant-collect_move-loop l = Collecting a_move l.grid.board l.t l.initial.so_far.cells.rows l.so_far.cells.rows l.i l.under l.so_far.next l.counter
 
-abbrev pub decreases-collect_move-loop-j : goal.decreases-collect_move-loop-j
-decreases-collect_move-loop-j l = l.under - l.j
-
-abbrev pub invariant-collect_wait-loop-j : goal.invariant-collect_wait-loop-j
-invariant-collect_wait-loop-j l = Collecting a_wait l.board l.t l.initial.so_far.cells.rows l.so_far.cells.rows l.i l.under l.so_far.next l.j
-
-abbrev pub decreases-collect_wait-loop-j : goal.decreases-collect_wait-loop-j
-decreases-collect_wait-loop-j l = l.under - l.j
+abbrev pub invariant-collect_wait-loop : goal.invariant-collect_wait-loop
+invariant-collect_wait-loop l = Collecting a_wait l.grid.board l.t l.initial.so_far.cells.rows l.so_far.cells.rows l.i l.under l.so_far.next l.counter

@@ -10,14 +10,8 @@ decreases-weigh_move l = length l.t.now - l.i
 abbrev pub decreases-weigh_wait : goal.decreases-weigh_wait
 decreases-weigh_wait l = length l.t.now - l.i
 
-abbrev pub invariant-weigh_move-loop-j : goal.invariant-weigh_move-loop-j
-invariant-weigh_move-loop-j l = Weighing a_move l.initial.t l.t l.i l.under l.next l.count l.j
+abbrev pub invariant-weigh_move-loop : goal.invariant-weigh_move-loop
+invariant-weigh_move-loop l = Weighing a_move l.initial.t l.t l.i l.under l.next l.count l.counter
 
-abbrev pub decreases-weigh_move-loop-j : goal.decreases-weigh_move-loop-j
-decreases-weigh_move-loop-j l = l.under - l.j
-
-abbrev pub invariant-weigh_wait-loop-j : goal.invariant-weigh_wait-loop-j
-invariant-weigh_wait-loop-j l = Weighing a_wait l.initial.t l.t l.i l.under l.next l.count l.j
-
-abbrev pub decreases-weigh_wait-loop-j : goal.decreases-weigh_wait-loop-j
-decreases-weigh_wait-loop-j l = l.under - l.j
+abbrev pub invariant-weigh_wait-loop : goal.invariant-weigh_wait-loop
+invariant-weigh_wait-loop l = Weighing a_wait l.initial.t l.t l.i l.under l.next l.count l.counter

@@ -9,16 +9,16 @@ use Rattle.nodes.proofs.with_stone.Goals as goal
 
 pub returns-then-cell-eq0 : goal.returns-then-cell-eq0
 returns-then-cell-eq0 c = λ x.
-    let y = held c.args.board c.args.set.rows x in
+    let y = held c.args.grid.board c.args.set.rows x in
     sym (or-false y) ∙ ap (λ (z : Bool). y || z) (sym (no_stone c.args.cell x c.if-cell-eq0.true))
 
 pub with-requires : goal.with-requires
 unfolding cells
-with-requires c = (c.requires.0, range_cell _ _ (pos_of_ne-zero c.if-cell-eq0.false) c.requires.1)
+with-requires c = range_cell _ _ (pos_of_ne-zero c.if-cell-eq0.false) c.requires
 
-pub returns : goal.returns
-returns c = λ x.
-    let y = held c.args.board c.args.set.rows x in
+pub returns-else-cell-eq0 : goal.returns-else-cell-eq0
+returns-else-cell-eq0 c = λ x.
+    let y = held c.args.grid.board c.args.set.rows x in
     c.with.ensures x
     ∙ or_comm (nat_eq x c.args.cell) y
     ∙ ap (λ (z : Bool). y || z) (sym (stone_cell c.args.cell x (pos_of_ne-zero c.if-cell-eq0.false)))

@@ -9,14 +9,14 @@ decreases-pick_move l = length l.t.now - l.i
 abbrev pub decreases-pick_wait : goal.decreases-pick_wait
 decreases-pick_wait l = length l.t.now - l.i
 
-abbrev pub invariant-pick_move-loop-j : goal.invariant-pick_move-loop-j
-invariant-pick_move-loop-j l = PickingMove l.board l.t l.initial.cells.rows l.cells.rows l.i l.number l.under l.next l.left l.k l.j
+abbrev pub invariant-pick_move-loop : goal.invariant-pick_move-loop
+invariant-pick_move-loop l = PickingMove l.grid.board l.t l.initial.cells.rows l.cells.rows l.i l.number l.under l.next l.left l.k l.counter
 
-abbrev pub decreases-pick_move-loop-j : goal.decreases-pick_move-loop-j
-decreases-pick_move-loop-j l = l.under - l.j
+abbrev pub decreases-pick_move-loop : goal.decreases-pick_move-loop
+decreases-pick_move-loop l = l.under - l.counter
 
 abbrev pub invariant-pick_wait-loop-own : goal.invariant-pick_wait-loop-own
-invariant-pick_wait-loop-own l = PickingWait l.board l.t l.i l.number l.next l.k l.own
+invariant-pick_wait-loop-own l = PickingWait l.grid.board l.t l.i l.number l.next l.k l.own
 
 abbrev pub decreases-pick_wait-loop-own : goal.decreases-pick_wait-loop-own
 decreases-pick_wait-loop-own l = length l.t - l.next

@@ -1,5 +1,5 @@
 -- The measure is twice the levels left, and one more for all nodes of a kind.
-use Rattle.std.proofs.Common.{◌+◌}
+use Rattle.std.proofs.Common.{◌+◌, ◌-◌}
 use Rattle.reading.specs.Spots.{spot_of}
 use Rattle.reading.specs.Storing.{store_all, store_node}
 use Rattle.reading.proofs.Storing.{Going}
@@ -11,9 +11,6 @@ decreases-read_all l = l.levels + l.levels + 1
 abbrev pub decreases-read_node : goal.decreases-read_node
 decreases-read_node l = l.levels + l.levels
 
-abbrev pub invariant-read_all-loop-left : goal.invariant-read_all-loop-left
-invariant-read_all-loop-left l =
-    Going l.board l.body l.kind l.levels (store_all l.initial.left (store_node l.levels l.kind l.board) (spot_of l.body l.initial.here) l.initial.table) l.here l.left l.table
-
-abbrev pub decreases-read_all-loop-left : goal.decreases-read_all-loop-left
-decreases-read_all-loop-left l = l.left
+abbrev pub invariant-read_all-loop : goal.invariant-read_all-loop
+invariant-read_all-loop l =
+    Going l.grid.board l.kind l.levels (store_all l.many (store_node l.levels l.kind l.grid.board) (spot_of l.initial.here) l.initial.table) l.here (l.many - l.counter) l.table

@@ -2,6 +2,6 @@
 use Rattle.rules.specs.Reading.{within, cell_of}
 use Rattle.reading.proofs.number_on.Goals as goal
 
-pub returns-in-Unnamed : goal.returns-in-Unnamed
+pub returns-in-None : goal.returns-in-None
 unfolding within cell_of
-returns-in-Unnamed c = rw c.in-Unnamed.is
+returns-in-None c = rw c.in-None.is

@@ -1,13 +1,17 @@
 -- A set-up line refused, the tree refused, or both read.
-use Rattle.reading.proofs.Body.{set_up_refused, tree_refused, tree_got}
+use Rattle.std.proofs.lemmas.Result.{err_from_is_err_and}
+use Rattle.reading.proofs.Body.{set_up_refused, body_refused, body_got}
 use Rattle.reading.proofs.read_body.Goals as goal
 
-pub returns-in-Refused : goal.returns-in-Refused
-returns-in-Refused c = set_up_refused _ _ _ _ _ _ _ c.read_set_up-set_up.ensures c.in-Refused.is c.unread.ensures
+pub returns-in_err-start : goal.returns-in_err-start
+returns-in_err-start c =
+    let p = err_from_is_err_and c.from_residual.result c.from_residual.ensures.1 in
+    rw (p.1, p.2) (set_up_refused _ _ _ _ c.in_err-start.ensures)
 
-pub returns-in-Refused-tree : goal.returns-in-Refused-tree
-returns-in-Refused-tree c =
-    tree_refused _ _ _ _ _ _ c.read_set_up-set_up.ensures c.in-Got.is _ _ c.read_tree-tree.ensures _ _ c.in-Refused-tree.is c.unread-in-Refused-tree.ensures
+pub returns-in_err-read_tree : goal.returns-in_err-read_tree
+returns-in_err-read_tree c =
+    let p = err_from_is_err_and c.from_residual-in_err-read_tree.result c.from_residual-in_err-read_tree.ensures.1 in
+    rw (p.1, p.2) (body_refused _ _ _ _ _ c.in_ok-start.ensures _ _ c.in_err-read_tree.ensures)
 
-pub returns-in-Got-tree : goal.returns-in-Got-tree
-returns-in-Got-tree c = tree_got _ _ _ _ _ _ c.read_set_up-set_up.ensures c.in-Got.is _ _ c.read_tree-tree.ensures _ c.in-Got-tree.is
+pub returns : goal.returns
+returns c = body_got _ _ _ _ _ c.in_ok-start.ensures _ c.in_ok-read_tree.ensures

@@ -1,31 +1,41 @@
 -- The two sets grow by a stone a line, until no set-up line stands there or one is refused.
+use mathlib.Core.Path.{sym, ap}
+use mathlib.Core.List.{[]}
 use native.Mathlib.Omega.{arith}
-use Rattle.reading.proofs.SettingUp.{setting_starts, setting_on, setting_done, setting_refused}
+use lib.ListN.{length}
+use Rattle.std.proofs.lemmas.Result.{err_from_is_err_and}
+use Rattle.rules.specs.Reading as R
+use Rattle.reading.proofs.SettingUp.{setting_on, setting_done, setting_refused}
 use Rattle.reading.proofs.read_set_up.Goals as goal
 
-pub loop-verdict-init : goal.loop-verdict-init
-loop-verdict-init c = setting_starts _ _ _ c.requires (c.empty-stones.ensures _)
+pub loop-after-init : goal.loop-after-init
+loop-after-init c =
+    let e = c.front_of-here.ensures in
+    record {
+      set_up = [];
+      most = length c.args.body.now;
+      same = ap (λ (s : R.Spot). R.read_set_up (length c.args.body.now) c.args.grid.board [] s.text) (sym e);
+      enough = omega (arith, ap (λ (s : R.Spot). length s.text) e);
+      low = omega (arith, ap (λ (s : R.Spot). length s.text) e, ap (λ (s : R.Spot). s.line) e);
+      held = c.empty-stones.ensures _;
+      line_is = ap (λ (s : R.Spot). s.line) e;
+      no_nodes_lem = ap (λ (s : R.Spot). s.nodes) e;
+    }
 
-pub stone_here-one-requires : goal.stone_here-one-requires
-stone_here-one-requires c = c.loop-verdict.invariant.ready
+pub returns-in_err-after : goal.returns-in_err-after
+returns-in_err-after c =
+    let g = c.loop-after.invariant in
+    let p = err_from_is_err_and c.from_residual.result c.from_residual.ensures.1 in
+    rw (p.1, p.2) (setting_refused g _ (c.in_err-after.ensures g.set_up g.held g.line_is))
 
-pub returns-in-Refused : goal.returns-in-Refused
-returns-in-Refused c =
-    let g = c.loop-verdict.invariant in
-    setting_refused g _ _ _ (c.stone_here-one.ensures g.set_up g.held g.line_is) c.in-Refused.is
+pub loop-after-preserved : goal.loop-after-preserved
+loop-after-preserved c =
+    let g = c.loop-after.invariant in
+    let k = c.in_ok-after.ensures g.set_up g.held g.line_is in
+    setting_on g _ _ (rw c.in-Some.is at k)
 
-pub returns-in-Ended : goal.returns-in-Ended
-returns-in-Ended c =
-    let g = c.loop-verdict.invariant in
-    setting_done g _ _ (c.stone_here-one.ensures g.set_up g.held g.line_is) c.in-Ended.is
-
-pub loop-verdict-smaller : goal.loop-verdict-smaller
-loop-verdict-smaller c =
-    let g = c.loop-verdict.invariant in
-    let on = setting_on g _ _ _ (c.stone_here-one.ensures g.set_up g.held g.line_is) c.in-Got.is in
-    omega (arith, on.1, on.0.ready.inside)
-
-pub loop-verdict-preserved : goal.loop-verdict-preserved
-loop-verdict-preserved c =
-    let g = c.loop-verdict.invariant in
-    (setting_on g _ _ _ (c.stone_here-one.ensures g.set_up g.held g.line_is) c.in-Got.is).0
+pub returns : goal.returns
+returns c =
+    let g = c.loop-after.invariant in
+    let k = c.in_ok-after.ensures g.set_up g.held g.line_is in
+    setting_done g (rw c.in_default.is at k)

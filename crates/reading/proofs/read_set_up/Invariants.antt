@@ -1,10 +1,10 @@
--- Line by line; what is still to be read falls.
-use Rattle.std.proofs.Common.{length, ◌-◌}
+-- Line by line; the text that is left falls.
+use Rattle.std.proofs.Common.{length}
 use Rattle.reading.proofs.SettingUp.{SettingUp}
 use Rattle.reading.proofs.read_set_up.Given as goal
 
-abbrev pub invariant-loop-verdict : goal.invariant-loop-verdict
-invariant-loop-verdict l = SettingUp l.board l.body l.stones l.here
+abbrev pub invariant-loop-after : goal.invariant-loop-after
+invariant-loop-after l = SettingUp l.grid.board l.body l.stones l.here
 
-abbrev pub decreases-loop-verdict : goal.decreases-loop-verdict
-decreases-loop-verdict l = length l.body - l.here.at
+abbrev pub decreases-loop-after : goal.decreases-loop-after
+decreases-loop-after l = length l.here.text.now

@@ -1,12 +1,20 @@
 -- Refused, text after the tree, or read.
-use Rattle.reading.proofs.Body.{kept_refused, kept_after, kept_got}
+use mathlib.Core.Path.{sym, ap}
+use lib.ListN.{length}
+use Rattle.std.proofs.lemmas.Bool.{eqb-true, eqb-false}
+use Rattle.std.proofs.lemmas.List.{nil_from_length}
+use Rattle.std.proofs.lemmas.Result.{err_from_is_err_and}
+use Rattle.reading.proofs.Body.{tree_refused, tree_before_text, tree_got}
 use Rattle.reading.proofs.read_tree.Goals as goal
 
-pub returns-in-Refused : goal.returns-in-Refused
-returns-in-Refused c = kept_refused _ _ _ _ c.requires _ _ c.read_node-read.ensures _ c.in-Refused.is
+pub returns-in_err-after : goal.returns-in_err-after
+returns-in_err-after c =
+    let p = err_from_is_err_and c.from_residual.result c.from_residual.ensures.1 in
+    rw (p.1, p.2) (tree_refused _ _ _ c.requires c.told-table _ _ c.in_err-after.ensures)
 
-pub returns-then-after-body : goal.returns-then-after-body
-returns-then-after-body c = kept_after _ _ _ _ c.requires _ _ c.read_node-read.ensures _ c.in-Got.is c.if-after-body.true
+pub returns-then-not-is_empty : goal.returns-then-not-is_empty
+returns-then-not-is_empty c =
+    tree_before_text _ _ _ c.requires c.told-table _ _ c.in_ok-after.ensures (λ e. eqb-false _ _ (sym c.if-not-is_empty.ensures) (ap length e))
 
-pub returns-else-after-body : goal.returns-else-after-body
-returns-else-after-body c = kept_got _ _ _ _ c.requires _ _ c.read_node-read.ensures _ c.in-Got.is c.if-after-body.false
+pub returns : goal.returns
+returns c = tree_got _ _ _ c.requires c.told-table _ _ c.in_ok-after.ensures (nil_from_length _ (eqb-true _ _ (sym c.if-not-is_empty.ensures)))

@@ -1,22 +1,24 @@
 -- No set-up line, off the board, named before, or one stone more.
 use mathlib.Core.Path.{sym, ◌∙◌}
-use Rattle.lines.specs.Seen.{set_up_seen}
-use Rattle.lines.proofs.Steps.{seen}
+use Rattle.std.proofs.lemmas.Result.{err_from_is_err_and}
+use Rattle.reading.proofs.Refusing.{refused_with}
 use Rattle.reading.proofs.SettingUp.{stone_off, stone_cell, stone_twice, stone_got}
 use Rattle.reading.proofs.stone_here.Goals as goal
 
-pub returns-in_default-number_at : goal.returns-in_default-number_at
-returns-in_default-number_at c = λ cs h line.
-    stone_off _ _ _ _ _ (seen set_up_seen c.set_up_line.ensures c.in-Got.is) (sym c.in_default-number_at.is ∙ c.number_at.ensures) cs line
+pub returns-in_err-cell : goal.returns-in_err-cell
+returns-in_err-cell c = λ cs h line.
+    let p = err_from_is_err_and c.from_residual.result c.from_residual.ensures.1 in
+    let e = c.in_err-cell.ensures in
+    rw (p.1, p.2, refused_with e.ok_part e.value) (stone_off _ _ _ c.in-Some.text c.in-Some.ensures (sym e.ok_part ∙ c.number_at.ensures) cs line)
 
-pub returns-then-on : goal.returns-then-on
-returns-then-on c = λ cs h line.
-    stone_twice _ _ _ _ _ (seen set_up_seen c.set_up_line.ensures c.in-Got.is) _ (sym c.in-On.is ∙ c.number_at.ensures) cs line (sym (c.on.ensures cs h) ∙ c.if-on.true)
+pub returns-then-has : goal.returns-then-has
+returns-then-has c = λ cs h line.
+    stone_twice _ _ _ c.in-Some.text c.in-Some.ensures _ (sym c.in_ok-cell.ensures.ok_part ∙ c.number_at.ensures) cs _ _ h line c.if-has.ensures
 
-pub put-requires : goal.put-requires
-put-requires c = (c.requires.fits, stone_cell _ _ _ (sym c.in-On.is ∙ c.number_at.ensures))
+pub with_stone-requires : goal.with_stone-requires
+with_stone-requires c = stone_cell _ _ _ (sym c.in_ok-cell.ensures.ok_part ∙ c.number_at.ensures)
 
 pub returns : goal.returns
 returns c = λ cs h line.
-    stone_got _ _ _ _ _ (seen set_up_seen c.set_up_line.ensures c.in-Got.is) _ (sym c.in-On.is ∙ c.number_at.ensures) cs c.requires line
-    (sym (c.on.ensures cs h) ∙ c.if-on.false) _ (c.put.ensures cs h)
+    stone_got _ _ _ _ c.in-Some.ensures _ (sym c.in_ok-cell.ensures.ok_part ∙ c.number_at.ensures) cs _ _ h line _ _ c.if-has.ensures _
+    (c.with_stone.ensures cs h)

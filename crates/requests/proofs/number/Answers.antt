@@ -1,24 +1,30 @@
 -- A turn reads a digit more, and what is refused is no number.
 use Rattle.std.proofs.Common.{arith}
-use Rattle.requests.proofs.Numbers.{refuted, scanned_more, refused_spelling, refused_byte, refused_size}
+use Rattle.std.proofs.lemmas.Bool.{false≢true}
+use Rattle.requests.proofs.Numbers.{scanned_more, refused_spelling, refused_byte, refused_size}
 use Rattle.requests.proofs.number.Goals as goal
 
 pub returns-then-not-well_spelled : goal.returns-then-not-well_spelled
-returns-then-not-well_spelled c = refused_spelling (refuted c.well_spelled.result c.if-not-well_spelled.true c.well_spelled.ensures.1)
+returns-then-not-well_spelled c = refused_spelling (λ p. false≢true (c.if-not-well_spelled.ensures.1 p))
 
-pub returns-then-digit-lt48 : goal.returns-then-digit-lt48
-returns-then-digit-lt48 c = refused_byte c.loop-i.i c.loop-i-test.true (λ d. omega (arith, d.least))
+pub returns-then-not-is_ascii_digit : goal.returns-then-not-is_ascii_digit
+returns-then-not-is_ascii_digit c = refused_byte c.loop-digit.digit-index c.loop-digit-test.true (λ d. omega (arith, d.least, d.most, c.if-not-is_ascii_digit.ensures.cases))
 
-pub returns-then-digit-gt57 : goal.returns-then-digit-gt57
-returns-then-digit-gt57 c = refused_byte c.loop-i.i c.loop-i-test.true (λ d. omega (arith, d.most))
+pub returns-in_err-checked_mul : goal.returns-in_err-checked_mul
+returns-in_err-checked_mul c =
+    rw c.from_residual.ensures
+    (refused_size c.loop-digit.invariant.scanned c.loop-digit-test.true c.if-not-is_ascii_digit.ensures.cases (omega (arith, c.in_err-checked_mul.ensures)))
 
-pub returns-then-value-gt4294967295 : goal.returns-then-value-gt4294967295
-returns-then-value-gt4294967295 c =
-    refused_size (scanned_more c.loop-i.invariant.scanned c.loop-i-test.true c.if-digit-lt48.false c.if-digit-gt57.false) (omega arith) c.if-value-gt4294967295.true
+pub returns-in_err-value : goal.returns-in_err-value
+returns-in_err-value c =
+    rw c.from_residual-in_err-value.ensures
+    (refused_size c.loop-digit.invariant.scanned c.loop-digit-test.true c.if-not-is_ascii_digit.ensures.cases
+    (omega (arith, c.in_ok-checked_mul.ensures, c.from.ensures, c.in_err-value.ensures)))
 
-pub loop-i-preserved : goal.loop-i-preserved
-loop-i-preserved c =
+pub loop-digit-preserved : goal.loop-digit-preserved
+loop-digit-preserved c =
     record {
-      scanned = scanned_more c.loop-i.invariant.scanned c.loop-i-test.true c.if-digit-lt48.false c.if-digit-gt57.false;
-      small = c.if-value-gt4294967295.false;
+      scanned = scanned_more c.loop-digit.invariant.scanned c.loop-digit-test.true c.if-not-is_ascii_digit.ensures.cases
+          (omega (arith, c.in_ok-value.ensures, c.from.ensures, c.in_ok-checked_mul.ensures));
+      small = omega (arith, c.in_ok-value.ensures);
     }

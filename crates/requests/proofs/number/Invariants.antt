@@ -4,5 +4,5 @@ use Rattle.requests.specs.Request.{most32}
 use Rattle.requests.proofs.Numbers.{Scanned}
 use Rattle.requests.proofs.number.Given as goal
 
-abbrev pub invariant-loop-i : goal.invariant-loop-i
-invariant-loop-i l = record { scanned : Scanned l.field l.value l.i; small : l.value ≤ most32 }
+abbrev pub invariant-loop-digit : goal.invariant-loop-digit
+invariant-loop-digit l = record { scanned : Scanned l.field l.value l.digit-index; small : l.value ≤ most32 }

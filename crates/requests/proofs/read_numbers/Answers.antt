@@ -1,15 +1,16 @@
 -- A turn reads a number more, and what is refused is no such list.
+use Rattle.std.proofs.Common.{arith}
 use Rattle.requests.proofs.Listing.{listing_none, listing_more, refused_more, refused_field}
 use Rattle.requests.proofs.read_numbers.Goals as goal
 
-pub loop-end-init : goal.loop-end-init
-loop-end-init c = listing_none c.requires.0 c.requires.1
+pub loop-fields-init : goal.loop-fields-init
+loop-fields-init c = listing_none c.requires c.told-numbers
 
-pub returns-then-count-ge-MOST_NUMBERS : goal.returns-then-count-ge-MOST_NUMBERS
-returns-then-count-ge-MOST_NUMBERS c = refused_more c.loop-end.invariant c.loop-end-test.true c.if-count-ge-MOST_NUMBERS.true
+pub returns-then-count-eq-MOST_NUMBERS : goal.returns-then-count-eq-MOST_NUMBERS
+returns-then-count-eq-MOST_NUMBERS c = refused_more c.loop-fields.invariant c.in-Some.ensures.cases.0 c.if-count-eq-MOST_NUMBERS.true
 
-pub returns-in_default : goal.returns-in_default
-returns-in_default c = refused_field c.loop-end.invariant c.loop-end-test.true c.field_end-end.ensures c.in_default.ensures
+pub returns-in_err-numbers : goal.returns-in_err-numbers
+returns-in_err-numbers c = rw c.from_residual.ensures (refused_field c.loop-fields.invariant c.in-Some.ensures.cases.0 c.first_field.ensures c.in_err-numbers.ensures)
 
-pub loop-end-preserved : goal.loop-end-preserved
-loop-end-preserved c = listing_more _ c.loop-end.invariant c.loop-end-test.true c.if-count-ge-MOST_NUMBERS.false c.field_end-end.ensures c.in-Got.ensures
+pub loop-fields-preserved : goal.loop-fields-preserved
+loop-fields-preserved c = listing_more _ c.loop-fields.invariant c.in-Some.ensures.cases.0 (omega (arith, c.loop-fields.invariant.few, c.if-count-eq-MOST_NUMBERS.false)) c.first_field.ensures c.in_ok-numbers.ensures

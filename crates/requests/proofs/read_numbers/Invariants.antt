@@ -1,10 +1,10 @@
--- Up to where a field ends, the line is the numbers read so far.
-use Rattle.std.proofs.Common.{◌-◌, length}
+-- The text is the numbers read so far, and the rest.
+use Rattle.std.proofs.Common.{length}
 use Rattle.requests.proofs.Listing.{Listing}
 use Rattle.requests.proofs.read_numbers.Given as goal
 
-abbrev pub invariant-loop-end : goal.invariant-loop-end
-invariant-loop-end l = Listing l.line l.at l.numbers l.end l.count
+abbrev pub invariant-loop-fields : goal.invariant-loop-fields
+invariant-loop-fields l = Listing l.text l.numbers l.rest l.count
 
-abbrev pub decreases-loop-end : goal.decreases-loop-end
-decreases-loop-end l = length l.line - l.end
+abbrev pub decreases-loop-fields : goal.decreases-loop-fields
+decreases-loop-fields l = length l.rest

@@ -1,12 +1,9 @@
 -- The same reply with any workspace that suffices.
-use Rattle.std.proofs.Common.{List, ℕ, ◌++◌, drop, ap}
-use Rattle.sheet.proofs.Naming.{outcome_short, outcome_long}
+use Rattle.std.proofs.Common.{rules}
+use Rattle.sheet.proofs.Naming.{outcome_ran}
 use Rattle.sheet.proofs.outcome.Goals as goal
-
-pub returns-then-workspace-lt8192 : goal.returns-then-workspace-lt8192
-returns-then-workspace-lt8192 c = outcome_short _ _ _ _ _ c.if-workspace-lt8192.true c.unnamed.ensures
 
 pub returns : goal.returns
 returns c =
-    outcome_long _ _ _ _ _ _ _ c.if-workspace-lt8192.false c.outcome_cleared.ensures.0
-    (ap (λ (l : List ℕ). l ++ drop 8192 c.args.workspace.now) c.outcome_cleared.ensures.1)
+    rw (c.shown_named.ensures, c.unwrap_or-answer.ensures)
+    (outcome_ran _ _ _ _ _ _ _ _ _ _ c.on_table.ensures (λ e. search rules) (λ table later v k. search rules))

@@ -1,12 +1,9 @@
 -- The same reply with any workspace that suffices.
-use Rattle.std.proofs.Common.{List, ℕ, ◌++◌, drop, ap}
-use Rattle.sheet.proofs.Playing.{play_short, play_long}
+use Rattle.std.proofs.Common.{rules}
+use Rattle.sheet.proofs.Playing.{play_ran}
 use Rattle.sheet.proofs.play.Goals as goal
-
-pub returns-then-workspace-lt8192 : goal.returns-then-workspace-lt8192
-returns-then-workspace-lt8192 c = play_short _ _ _ _ _ c.if-workspace-lt8192.true c.unplayed.ensures
 
 pub returns : goal.returns
 returns c =
-    play_long _ _ _ _ _ _ _ c.if-workspace-lt8192.false c.play_cleared.ensures.0
-    (ap (λ (l : List ℕ). l ++ drop 8192 c.args.workspace.now) c.play_cleared.ensures.1)
+    rw (c.shown_played.ensures, c.unwrap_or-answer.ensures, c.from.ensures)
+    (play_ran _ _ _ _ _ _ _ _ _ _ c.on_table.ensures (λ e. search rules) (λ table later r k. search rules))

@@ -5,7 +5,7 @@ use Rattle.sheet.proofs.play_sheet.Goals as goal
 
 pub returns-then-room-moves : goal.returns-then-room-moves
 returns-then-room-moves c = λ text h.
-    played_refused _ _ _ _ _ (play_no_room text _ _ least_workspace h.held.sheet h.is_accepted c.if-room-moves.true) c.unplayed.ensures
+    rw c.from.ensures (played_refused _ _ _ (play_no_room text _ _ least_workspace h.held.sheet h.is_accepted c.if-room-moves.true))
 
 pub play_table-requires-clause-holds : goal.play_table-requires-clause-holds
 play_table-requires-clause-holds c =

@@ -1,7 +1,8 @@
--- `cells::Cells::list`: after i turns the cells up to i are written.
+-- `cells::Cells::list`: the cells below the next one are written.
+use Rattle.std.proofs.Common.{◌-◌}
 use Rattle.cells.specs.Cells.{held}
 use Rattle.cells.proofs.Counted.{Writing}
 use Rattle.cells.proofs.Cells.list.Given as goal
 
-abbrev pub invariant-loop-i : goal.invariant-loop-i
-invariant-loop-i l = Writing l.board (held l.board l.self.rows) l.i-end l.i l.n l.fn.room l.room
+abbrev pub invariant-loop-cell : goal.invariant-loop-cell
+invariant-loop-cell l = Writing (held l.grid.board l.self.rows) (l.cell - 1) l.n l.fn.room l.room

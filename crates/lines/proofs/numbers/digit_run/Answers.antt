@@ -1,33 +1,18 @@
--- `lines::numbers::digit_run` meets its contract. The run from where the loop stands is the run from its beginning.
-use Rattle.std.proofs.Common.{refl, ◌∙◌, arith}
-use Rattle.lines.specs.Run.{run_at}
-use Rattle.lines.proofs.Digits.{digits_past, digits_below, digits_above, run_more, run_end}
+-- `lines::numbers::digit_run` meets its contract. The run ends at a byte that is no digit, or with the text.
+use mathlib.Core.Path.{sym}
+use Rattle.std.proofs.Common.{arith}
+use Rattle.rules.specs.Text.{is_digit}
+use Rattle.lines.proofs.Digits.{run_whole, run_stops, run_more}
 use Rattle.lines.proofs.numbers.digit_run.Goals as goal
 
-pub loop-next-init : goal.loop-next-init
-loop-next-init c = record { least = omega arith; same = refl }
+pub returns-then-not-is_ascii_digit : goal.returns-then-not-is_ascii_digit
+unfolding is_digit
+returns-then-not-is_ascii_digit c = run_stops c.loop-long.invariant c.loop-long-test.true (sym c.if-not-is_ascii_digit.ensures.value)
 
-pub returns-then-digit-lt48 : goal.returns-then-digit-lt48
-unfolding run_at
-returns-then-digit-lt48 c =
-    run_end _ _ c.loop-next.invariant.least (digits_below _ _ c.loop-next-test.true c.if-digit-lt48.true) ∙ c.loop-next.invariant.same
-
-pub returns-then-digit-gt57 : goal.returns-then-digit-gt57
-unfolding run_at
-returns-then-digit-gt57 c =
-    run_end _ _ c.loop-next.invariant.least (digits_above _ _ c.loop-next-test.true c.if-digit-lt48.false c.if-digit-gt57.true) ∙ c.loop-next.invariant.same
-
-pub appended-value-requires : goal.appended-value-requires
-appended-value-requires c = (c.loop-next.invariant.least, c.if-digit-lt48.false)
-
-pub loop-next-preserved : goal.loop-next-preserved
-loop-next-preserved c =
-    record {
-      least = omega (arith, c.appended-value.ensures);
-      same = rw c.appended-value.ensures (run_more _ _ c.loop-next-test.true _ c.if-digit-lt48.false c.if-digit-gt57.false ∙ c.loop-next.invariant.same);
-    }
+pub loop-long-preserved : goal.loop-long-preserved
+unfolding is_digit
+loop-long-preserved c =
+    rw c.appended-value.ensures (run_more c.loop-long.invariant c.loop-long-test.true (sym c.if-not-is_ascii_digit.ensures.value))
 
 pub returns : goal.returns
-unfolding run_at
-returns c =
-    run_end _ _ c.loop-next.invariant.least (digits_past _ _ c.loop-next-test.false) ∙ c.loop-next.invariant.same
+returns c = run_whole c.loop-long.invariant (omega arith)

@@ -1,14 +1,6 @@
--- Each digit goes on with the run that began at the place.
-use Rattle.std.proofs.Common.{List, ℕ, length, drop, ◌≡◌, ◌≤◌, ◌-◌}
-use Rattle.lines.specs.Run.{ceiling, run_from}
+-- Each digit goes on with the run of the whole text.
+use Rattle.lines.proofs.Digits.{Counted}
 use Rattle.lines.proofs.numbers.digit_run.Given as goal
 
-pub record Counted (s : List ℕ) (at value next : ℕ) : Type 0 where
-  pub least : value ≤ ceiling
-  pub same : run_from value next (drop next s) ≡ run_from 0 at (drop at s)
-
-abbrev pub invariant-loop-next : goal.invariant-loop-next
-invariant-loop-next l = Counted l.s l.at l.value l.next
-
-abbrev pub decreases-loop-next : goal.decreases-loop-next
-decreases-loop-next l = length l.s - l.next
+abbrev pub invariant-loop-long : goal.invariant-loop-long
+invariant-loop-long l = Counted l.s l.value l.long

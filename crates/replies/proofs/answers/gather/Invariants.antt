@@ -3,8 +3,8 @@ use Rattle.std.proofs.Common.{◌-◌, length}
 use Rattle.replies.proofs.Gathering.{GatheredSoFar}
 use Rattle.replies.proofs.answers.gather.Given as goal
 
-abbrev pub invariant-loop-replies : goal.invariant-loop-replies
-invariant-loop-replies l = GatheredSoFar l.bytes l.replies l.taken l.said
+abbrev pub invariant-loop-said : goal.invariant-loop-said
+invariant-loop-said l = GatheredSoFar l.bytes l.said l.taken
 
-abbrev pub decreases-loop-replies : goal.decreases-loop-replies
-decreases-loop-replies l = length l.bytes - l.taken
+abbrev pub decreases-loop-said : goal.decreases-loop-said
+decreases-loop-said l = length l.bytes - l.taken

@@ -1,9 +1,0 @@
--- `cells::last_side` meets its contract: the side is one row or one column of the board.
-use Rattle.cells.proofs.Sides.{last_down, last_across}
-use Rattle.cells.proofs.last_side.Goals as goal
-
-pub returns-in-D : goal.returns-in-D
-returns-in-D c = last_down c.args.board c.requires c.block.result.rows c.args.player c.in-D.is c.block.ensures
-
-pub returns-in-A : goal.returns-in-A
-returns-in-A c = last_across c.args.board c.requires c.block-in-A.result.rows c.args.player c.in-A.is c.block-in-A.ensures

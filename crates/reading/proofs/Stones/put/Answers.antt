@@ -1,9 +1,0 @@
--- One stone more, in the set of its side.
-use Rattle.reading.proofs.SettingUp.{put_own, put_opp, put_by}
-use Rattle.reading.proofs.Stones.put.Goals as goal
-
-pub returns-in-Own : goal.returns-in-Own
-returns-in-Own c = λ cs h. put_by _ cs _ _ _ _ _ c.in-Own.is (put_own _ cs _ _ _ _ h c.with.ensures)
-
-pub returns-in-Opp : goal.returns-in-Opp
-returns-in-Opp c = λ cs h. put_by _ cs _ _ _ _ _ c.in-Opp.is (put_opp _ cs _ _ _ _ h c.with-in-Opp.ensures)
