@@ -1,6 +1,7 @@
 // answering: a sheet that the node table holds is played against a list of opponent moves by the answering rule. While it is
 // played, a node's count is 1 at an open wait and 0 at every other node. It sees rules, cells and nodes.
-// A walk goes on by a number of the table, the end of a node: a `while`.
+// A walk goes on by a number of the table, the end of a node: a `while`. What is asked of the
+// table: see the head of nodes.
 
 #![tactic(auto)]
 
@@ -52,7 +53,7 @@ pub struct Stopped {
     pub place: usize,
 }
 
-// A refusal of all moves together: at place 0.
+// A refusal of all moves together: at place 0. (No Option: `as_played` hands it on, and `refused_play` names it.)
 impl From<Verdict> for Stopped {
     ghost use Rattle.std.specs.Prelude.{◌≡◌};
 
@@ -200,6 +201,8 @@ fn open_start(t: &mut [u32])
 
 // Plays the moves: the table holds an accepted sheet, and these are its set-up stones. The answers are written into the first places of the
 // room, which has one for each wait.
+// (Grid, player and stones, and no Head: it asks for no line of a first node. The answers go by index, since a proof knows no element that
+// is written through `iter_mut`.)
 pub fn play_moves(
     t: &mut [u32],
     grid: Grid,

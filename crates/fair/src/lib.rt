@@ -1,6 +1,7 @@
 // fair: free, apart and no branch twice, decided over the node table. It holds the three searches for the first faulty node, each
 // with that node's smallest faulty cell where the fault is a cell's. (Elusive is in live.) It sees rules, cells and nodes.
-// A walk over the moves of a wait goes on by a number of the table: a `while`.
+// A walk over the moves of a wait goes on by a number of the table: a `while`. What is asked of the table: see
+// the head of nodes.
 
 #![tactic(auto)]
 
@@ -132,6 +133,7 @@ fn same_row(table: &[u32], i: usize, j: usize) -> bool
 }
 
 // Whether the n rows from node i on are those from node j on.
+// (Row by row, and no `==`: only the numbers that `same_row` looks at.)
 fn same_rows(table: &[u32], i: usize, j: usize, n: usize) -> bool
     requires { (4 * (i + n) ≤ length table.now) × (4 * (j + n) ≤ length table.now) }
     ensures { result ≡ same (rows_in table.now i n) (rows_in table.now j n) }

@@ -1,5 +1,6 @@
 // judging: the checks of a sheet that the table holds, one function a check, and the verdict with its counts. It sees rules, cells,
 // nodes, fair, live and outcomes.
+// What the searches tell is turned into a verdict by a `match`, where the line is reckoned too.
 // The table is lent anew at each call, so it is handed on beside the head of its sheet. The checks are functions of one shape and not one
 // function: each is a definition's own, with its verdict, and a verdict handed in as a function would need more words in the contract than
 // it saves.
@@ -48,7 +49,7 @@ fn line_of(node: usize, first: u32) -> u32
     node as u32 + first
 }
 
-// 20: a move on a set-up stone. Where the first node stands on line 2 there is no stone.
+// 20: a move on a set-up stone. Where the first node stands on line 2, which `none_told` names, there is no stone.
 fn free_on(table: &[u32], head: Head) -> Result<(), Verdict>
     requires { SomeWhole table.now head.grid.board head.set_up }
     ensures { (s : Sheet) → HoldsWhole table.now head.grid.board head.set_up s → checked result ≡ refuse_fault OnSetUp (first_on_set_up s) }

@@ -31,6 +31,8 @@ fn appended(value: u32, digit: u8) -> u32
 }
 
 // The digits at the front of a text, as many as there are.
+// (By hand, with their number beside: `run_of` names the value up to the ceiling and how many digits there are, also past 32 bits, which no
+// `parse` tells.)
 fn digit_run(s: &[u8]) -> Run
     ensures { result ≡ run_of s.now }
 {

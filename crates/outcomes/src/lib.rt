@@ -1,6 +1,7 @@
 // outcomes: the outcome with a number, by the ends and the counts in the node table; the first outcome that does not join, and how many
 // were passed over. It sees rules, cells and nodes.
-// A walk goes on by a number of the table, the end of a node: a `while`.
+// A walk goes on by a number of the table, the end of a node: a `while`. What is asked of the table:
+// see the head of nodes.
 
 #![tactic(auto)]
 

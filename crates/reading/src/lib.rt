@@ -135,6 +135,7 @@ struct Said<'a> {
 }
 
 // The line of the next node. In this order: 8, 6, 4, 7, 5.
+// (Grid, kind, levels and spot are in no struct: three of them change at each step down.)
 fn line_here<'a>(
     grid: Grid,
     kind: LineKind,
@@ -226,6 +227,7 @@ fn read_tree(table: &mut [u32; 8192], grid: Grid, start: Spot<'_>) -> Result<(),
 }
 
 // The body after the header line, read as a text that begins where the header ended: set-up lines, one tree and no text after it.
+// (How long it may be is asked of each body: it is the caller's text, and no type holds that.)
 pub fn read_body(body: &[u8], table: &mut [u32; 8192], grid: Grid) -> Result<SetUp, Verdict>
     requires { length body.now ≤ most_bytes }
     ensures { BodyKept grid.board body.now table.old result table.new }

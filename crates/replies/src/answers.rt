@@ -1,4 +1,5 @@
 // The replies: a request is answered with memory that is lent to the entries, and the requests of some bytes one after another.
+// Output, memory and replies are lent anew at each call, so they are in no struct.
 ghost use Rattle.std.specs.Prelude.{◌≡◌, true, ◌+◌, ◌≤◌, length, take};
 ghost use Rattle.requests.specs.Request.{RequestOf};
 ghost use Rattle.replies.specs.Reply.{verdict_line, play_line, outcome_line, reply_of};
@@ -28,6 +29,7 @@ fn say_memory(out: Stdout, right: bool, said: &[u8])
 }
 
 // Judges the sheet, and writes the reply: the judging program's line, or all counts.
+// (`all` as in `Ask`: the same is done, and the reply is longer by two numbers.)
 fn answer_judge(out: Stdout, text: &[u8], all: bool, workspace: &mut [u32], said: &mut Said)
     requires { said.old.end + 11077 ≤ 32768 }
     ensures { Says (verdict_line all (length workspace.old) text.now) said.old said.new }
@@ -145,6 +147,7 @@ pub struct Gathered {
 }
 
 // Answers the requests of the bytes, one after another.
+// (How many there are is known at their end alone: a `while`.)
 pub fn gather(out: Stdout, bytes: &[u8], memory: &mut Memory, said: &mut Said) -> Gathered
     ensures { GatheredFrom bytes.now said.new result }
 {

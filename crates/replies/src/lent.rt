@@ -36,7 +36,8 @@ pub fn workspace_right(workspace: &[u32]) -> bool
     all_are(0, &workspace[..8192]) && all_are(FILLING, &workspace[8192..])
 }
 
-// Whether the room is as the entries leave it after a reply with the number, 0 where it is done, and so many answers or cells.
+// Whether the room is as the entries leave it after a reply with the number, 0 where it is done (`RoomLaid` has it so), and so many answers
+// or cells.
 fn room_right(room: &[u32], number: u32, written: usize) -> bool
     ensures { Decides result (RoomLaid number written room.now) }
 {

@@ -21,7 +21,7 @@ impl Window {
     ghost use Rattle.std.specs.Prelude.{◌≡◌, ◌+◌, ◌-◌, ◌<◌};
     ghost use Rattle.replies.specs.Window.{bytes_of, PlaceBehind, ReadBehind};
 
-    // Moves its bytes to the front of the buffer: `copy_within`, and its places.
+    // Moves its bytes to the front of the buffer: `copy_within` and its places, with the contract that `make_place` needs.
     fn to_front(&mut self)
         ensures same { bytes_of self.new ≡ bytes_of self.old }
         ensures front { (self.new.start ≡ 0) × (self.new.end ≡ self.old.end - self.old.start) }

@@ -64,6 +64,8 @@ fn well_spelled(field: &[u8]) -> bool
 }
 
 // A decimal number without leading zeros, up to 4294967295, that is the whole field.
+// (By hand: the whole field is to be `decimal` of a number, and `parse` takes a `str` and another spelling too; `lines` reads what stands at
+// the front of a text, and neither crate sees the other.)
 fn number(field: &[u8]) -> Option<u32>
     ensures { NumberReply field.now result }
 {
@@ -142,6 +144,7 @@ fn request_of(ask: Ask, numbers: &[u32]) -> Option<Request>
     }
     let work = numbers[0] as usize;
     let bytes = numbers[1] as usize;
+    // No third number: no room, so 0, as `room_of` says.
     let room = numbers.get(2).map_or(0, |&n| n as usize);
     if MOST_WORK < work || MOST_BYTES < bytes || MOST_ROOM < room {
         return None;

@@ -111,7 +111,8 @@ fn outcome_text(
     name_outcome(table, head, number, room)
 }
 
-// What outcome returns: a refusal lists no cells. (No From: neither type is of this crate.)
+// What outcome returns: a refusal lists no cells. (No From: neither type is of this crate. No one function for this and what play returns:
+// `Named` and `Played` share the verdict alone.)
 fn shown_named(answer: Result<usize, Verdict>) -> Named
     ensures { result ≡ as_named answer }
 {
@@ -135,6 +136,7 @@ pub fn outcome(sheet: &[u8], number: u32, room: &mut [u32], workspace: &mut [u32
 
 // Plays the moves on the accepted sheet in the table: or 15, 16, 17. The answers are kept apart until no move is refused, with a place for
 // the answer of each wait that a sheet can have.
+// (Memory of a fixed size, and how much of it is in use: nothing is allocated.)
 fn play_table(
     table: &mut [u32],
     head: Head,
@@ -194,6 +196,7 @@ fn play_sheet(
 }
 
 // Plays a sheet that is read into the table.
+// (Beside `outcome_text`, since `outcome` and `play` are definitions of their own.)
 fn play_text(
     sheet: &[u8],
     moves: &[u32],
