@@ -163,15 +163,12 @@ empty_cell s g x e = fst (is_cell s.board x) (not (is_taken s g x)) e
 
 module _ {t₀ : List ℕ} {b : Board} {p : Player} {s : Sheet} (h : Playable t₀ b p s) {moves room₀ t room ours theirs : List ℕ} {i : ℕ}
     (l : Playing b s moves room₀ t room ours theirs i) where
-  -- the move, and what is said of it
-  abbrev x : ℕ
-  x = get_or moves i 0
+  -- what is said of a move to the cell
+  abbrev checked_now : ℕ → Result (Unit {0})
+  checked_now x = checked b p (held b ours) (held b theirs) x
 
-  abbrev checked_now : Result (Unit {0})
-  checked_now = checked b p (held b ours) (held b theirs) x
-
-  asked_same : checked s.board s.player (among (mine s l.game)) (among l.game.theirs) x ≡ checked_now
-  asked_same =
+  asked_same : (x : ℕ) → checked s.board s.player (among (mine s l.game)) (among l.game.theirs) x ≡ checked_now x
+  asked_same x =
       ap₂ (λ (z : Board) (q : Player). checked z q (among (mine s l.game)) (among l.game.theirs) x) h.on h.player_is
       ∙ checked_same b p (among (mine s l.game)) (held b ours) (among l.game.theirs) (held b theirs) x (λ y. sym (l.ours_are y)) (λ y. sym (l.theirs_are y))
 
@@ -182,11 +179,12 @@ module _ {t₀ : List ℕ} {b : Board} {p : Player} {s : Sheet} (h : Playable t�
   opens_now z = rw (z, h.on) l.are_open
 
   -- the move is refused
-  pub playing_stopped : i < length moves → (v : Verdict) → refused v ≡ checked_now → {t₁ : List ℕ} → Remarked t₁ t
+  pub playing_stopped : i < length moves → (v : Verdict) → refused v ≡ checked_now (get_or moves i 0) → {t₁ : List ℕ} → Remarked t₁ t
       → PlaysMoves s t₁ moves room₀ (Err (record { verdict = v; place = i + 1 })) t room
   unfolding shown
   playing_stopped q v e r =
-      let here = asked_same ∙ sym e in
+      let x = get_or moves i 0 in
+      let here = asked_same x ∙ sym e in
       let a = l.rounds_are ∙ ap (rounds s l.game (i + 1)) (next_move q) ∙ rounds_stop s l.game x v (i + 1) (drop (i + 1) moves) here in
       let z = l.reached_is ∙ ap (reached s l.game) (next_move q) ∙ reached_stop s l.game x v (drop (i + 1) moves) here in
       record { reply = sym (ap (shown s) a); rows = r; open_waits = opens_now z; answers = rw z l.room_is }
@@ -206,9 +204,9 @@ module _ {t₀ : List ℕ} {b : Board} {p : Player} {s : Sheet} (h : Playable t�
       record { reply = ap₂ (λ (n : ℕ) (z : Bool). Ok (record { answers = n; over = z })) (sym (l.many ∙ q)) o ∙ sym (ap (shown s) a); rows = r; open_waits = opens_now z; answers = rw z l.room_is }
 
   -- the move is answered
-  module _ (e : got tt ≡ checked_now) where
+  module _ (x : ℕ) (e : got tt ≡ checked_now x) where
     fine_here : checked s.board s.player (among (mine s l.game)) (among l.game.theirs) x ≡ got tt
-    fine_here = asked_same ∙ sym e
+    fine_here = asked_same x ∙ sym e
 
     has_answer : HasAnswer s l.game x
     has_answer =
@@ -244,15 +242,16 @@ module _ {t₀ : List ℕ} {b : Board} {p : Player} {s : Sheet} (h : Playable t�
           (subst (λ (z : Board). T (is_cell z (taken l.game.open_waits has_answer.choice))) h.on
           (empty_cell s l.game (taken l.game.open_waits has_answer.choice) has_answer.was_empty))
 
-      pub playing_again : i < length moves → length room ≡ length room₀ → {room' ours' theirs' : List ℕ}
+      pub playing_again : i < length moves → x ≡ get_or moves i 0 → length room ≡ length room₀ → {room' ours' theirs' : List ℕ}
           → ((y : ℕ) → held b ours' y ≡ (eqb y r || held b ours y)) → ((y : ℕ) → held b theirs' y ≡ (eqb y x || held b theirs y))
           → Wrote room room' i r → Playing b s moves room₀ t' room' ours' theirs' (i + 1)
       unfolding next
-      playing_again q n {room'} {ours'} {theirs'} us them put =
+      playing_again q w n {room'} {ours'} {theirs'} us them put =
           let g = l.game in
           let f = answer_here in
           let k = has_answer.choice in
           let same : answered g x ≡ next g x k = answered_next s g x k has_answer.is_answer in
+          let now : checked s.board s.player (among (mine s g)) (among g.theirs) (get_or moves i 0) ≡ got tt = rw w at fine_here in
           record {
             game = next g x k;
             so_far = l.so_far ++ x ∷ [];
@@ -267,13 +266,13 @@ module _ {t₀ : List ℕ} {b : Board} {p : Player} {s : Sheet} (h : Playable t�
             rounds_are =
                 l.rounds_are
                 ∙ ap (rounds s g (i + 1)) (next_move q)
-                ∙ rounds_on s g x (i + 1) (drop (i + 1) moves) fine_here
-                ∙ ap (λ (z : Game). rounds s z (i + 1 + 1) (drop (i + 1) moves)) same;
+                ∙ rounds_on s g (get_or moves i 0) (i + 1) (drop (i + 1) moves) now
+                ∙ ap (λ (z : Game). rounds s z (i + 1 + 1) (drop (i + 1) moves)) (ap (answered g) (sym w) ∙ same);
             reached_is =
                 l.reached_is
                 ∙ ap (reached s g) (next_move q)
-                ∙ reached_on s g x (drop (i + 1) moves) fine_here
-                ∙ ap (λ (z : Game). reached s z (drop (i + 1) moves)) same;
+                ∙ reached_on s g (get_or moves i 0) (drop (i + 1) moves) now
+                ∙ ap (λ (z : Game). reached s z (drop (i + 1) moves)) (ap (answered g) (sym w) ∙ same);
             so_many = omega (arith, length-append l.so_far (x ∷ []), l.so_many);
             room_is =
                 room_more g.answers room₀ room room' i (taken g.open_waits k) l.many n l.room_is

@@ -173,7 +173,7 @@ impl Cells {
     }
 
     // Puts one cell of the board into the set.
-    fn put(&mut self, grid: Grid, cell: usize)
+    pub fn put(&mut self, grid: Grid, cell: usize)
         requires { T (is_cell grid.board cell) }
         ensures { (y : ℕ) → held grid.board self.new.rows y ≡ (eqb y cell || held grid.board self.old.rows y) }
     {

@@ -109,17 +109,17 @@ record Has (at : Board → TreeNode → Option Fault) (b : Board) (i : ℕ) (n :
   fault_is : at b n ≡ some (record { line = line_of n; cell = f.cell })
 
 -- of a held sheet, the nodes from i on are left, and its first fault is theirs
-record Left (first : Sheet → Option Fault) (at : Board → TreeNode → Option Fault) (b : Board) (t : List ℕ) (i end : ℕ) (s : Sheet) : Type 0 where
-  rest : List TreeNode
-  laid : Laid b t s.root.line i rest
-  to_end : i + length rest ≡ end
-  same : first s ≡ first_some (at b) rest
+pub record Left (first : Sheet → Option Fault) (at : Board → TreeNode → Option Fault) (b : Board) (t : List ℕ) (i end : ℕ) (s : Sheet) : Type 0 where
+  pub rest : List TreeNode
+  pub laid : Laid b t s.root.line i rest
+  pub to_end : i + length rest ≡ end
+  pub same : first s ≡ first_some (at b) rest
 
 -- so it is of whatever sheet is held
-abbrev Searching : (Sheet → Option Fault) → (Board → TreeNode → Option Fault) → Board → List ℕ → (i end : ℕ) → Type 0
+abbrev pub Searching : (Sheet → Option Fault) → (Board → TreeNode → Option Fault) → Board → List ℕ → (i end : ℕ) → Type 0
 Searching first at b t i end = (s : Sheet) → HoldsSheet t b s → Left first at b t i end s
 
-search_starts : (first : Sheet → Option Fault) (at : Board → TreeNode → Option Fault) (b : Board) (t : List ℕ) (end : ℕ) → end ≡ end_in t 0
+pub search_starts : (first : Sheet → Option Fault) (at : Board → TreeNode → Option Fault) (b : Board) (t : List ℕ) (end : ℕ) → end ≡ end_in t 0
     → ((s : Sheet) → first s ≡ first_some (at s.board) (tree_of s)) → Searching first at b t 0 end
 search_starts first at b t end e tree s h =
     record {
@@ -149,7 +149,7 @@ next_node {first} {at} {b} {t} {i} {end} {s} p l = go l.rest l.laid l.to_end l.s
 
 module _ {first : Sheet → Option Fault} {at : Board → TreeNode → Option Fault} {b : Board} {t : List ℕ} {i end : ℕ} (w : Searching first at b t i end) where
   -- it is not faulty
-  search_again : i < end → ((n : TreeNode) → NodeAt b t i n → at b n ≡ none) → Searching first at b t (i + 1) end
+  pub search_again : i < end → ((n : TreeNode) → NodeAt b t i n → at b n ≡ none) → Searching first at b t (i + 1) end
   search_again p gone s h =
       let n = next_node p (w s h) in
       record {
@@ -176,7 +176,7 @@ module _ {first : Sheet → Option Fault} {at : Board → TreeNode → Option Fa
       }
 
   -- none is
-  search_ends : end ≤ i → (s : Sheet) → HoldsSheet t b s → FaultFound s (first s) code.None
+  pub search_ends : end ≤ i → (s : Sheet) → HoldsSheet t b s → FaultFound s (first s) code.None
   search_ends p s h =
       let l = w s h in
       record { seen = sym (l.same ∙ go l.rest l.to_end); low = tt }

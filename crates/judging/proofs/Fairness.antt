@@ -26,7 +26,7 @@ use Rattle.rules.proofs.Given.{bare_free}
 use Rattle.rules.proofs.Living.{idle_few}
 use Rattle.cells.specs.Cells.{held, Holds}
 use Rattle.nodes.specs.Table.{count_in}
-use Rattle.nodes.specs.Sheets.{HoldsSetUp, HoldsWhole}
+use Rattle.nodes.specs.Sheets.{HoldsSheet, HoldsSetUp}
 use Rattle.nodes.specs.declared.head.SetUp.{SetUp}
 use Rattle.nodes.proofs.Sheets.{living_count}
 use Rattle.fair.specs.Faults.{FaultFound}
@@ -62,10 +62,10 @@ all_stones {s = s} h rows e =
     record { same = λ x. e x ∙ ap₂ ◌||◌ (h.stones.own_held.same x) (h.stones.opp_held.same x) ∙ sym (either_side s.set_up x) }
 
 -- where the first node stands on line 2 no stone was set up, so no move is on one
-pub none_told : {t : List ℕ} {b : Board} {u : SetUp} {s : Sheet} → HoldsWhole t b u s → u.first ≡ 2 → got tt ≡ refuse_fault OnSetUp (first_on_set_up s)
+pub none_told : {t : List ℕ} {b : Board} {s : Sheet} → HoldsSheet t b s → (first : ℕ) → first ≡ s.root.line → first ≡ 2 → got tt ≡ refuse_fault OnSetUp (first_on_set_up s)
 unfolding refuse_fault
-none_told {s = s} h e =
-    let none-set-up : length s.set_up ≡ 0 = omega (arith, e, h.set_up.first_is, h.tree.well.first_line_lem) in
+none_told {s = s} h first on e =
+    let none-set-up : length s.set_up ≡ 0 = omega (arith, e, on, h.well.first_line_lem) in
     ap (refuse_fault OnSetUp) (sym (bare_free s (none_long s.set_up none-set-up)))
 
 -- 12: the table has the count of outcomes, kept at one past the most

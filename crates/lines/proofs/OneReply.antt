@@ -1,7 +1,8 @@
 -- A line is read in one way: two answers that the contract of `header_line`, of `set_up_line` or of `node_line` allows say the same, and the
 -- text after it is the same.
 use mathlib.Core.Path.{◌≡◌, refl, sym, ap, ap₂, ◌∙◌}
-use Prim.Native.Nat.{ℕ}
+use Prim.Native.Nat.{ℕ, ◌-◌}
+use lib.ListN.{length}
 use Rattle.std.specs.Prelude as code
 use Rattle.std.specs.Borrow.{Bor}
 use Rattle.rules.specs.Text.{Bytes, Reader}
@@ -21,6 +22,18 @@ Alike code.None code.None = Unit {0}
 Alike code.None (code.Some y) = ⊥
 Alike (code.Some x) code.None = ⊥
 Alike (code.Some x) (code.Some y) = (x.0 ≡ y.0) × (x.1.now ≡ y.1.now)
+
+-- what was read, and the place in the text where it goes on
+abbrev pub placed : {X : Type 0} → Bytes → code.Option (X × Bor Bytes) → code.Option (X × ℕ)
+placed s code.None = code.None
+placed s (code.Some x) = code.Some (x.0, length s - length x.1.now)
+
+-- so it goes on at the same place
+pub one_place_after : {X : Type 0} (s : Bytes) (r r' : code.Option (X × Bor Bytes)) → Alike r r' → placed s r ≡ placed s r'
+one_place_after s code.None code.None e = refl
+one_place_after s code.None (code.Some y) e = absurd e
+one_place_after s (code.Some x) code.None e = absurd e
+one_place_after {X} s (code.Some x) (code.Some y) e = ap₂ (λ (a : X) (t : Bytes). code.Some (a, length s - length t)) e.0 e.1
 
 module _ {X A : Type 0} (f : X → A) (one : (x y : X) → f x ≡ f y → x ≡ y) where
   seen_alike : (r r' : code.Option (X × Bor Bytes)) → seen_as f r ≡ seen_as f r' → Alike r r'

@@ -1,21 +1,13 @@
 // Line 1: the board and the player.
 ghost use Rattle.rules.specs.Lines as L;
 ghost use Rattle.lines.specs.Parts as parts;
-ghost use Rattle.lines.specs.Seen.{Reads, skipped, number_seen, board_seen, player_seen, header_seen};
+ghost use Rattle.lines.specs.Seen.{Reads, number_seen, board_seen, player_seen, header_seen};
 
-use crate::numbers::{byte_at, number_in};
+use crate::numbers::{byte_at, number_in, word_at};
 use rules::{Board, Player};
 
 // A board has 1 to 19 columns and 1 to 19 rows.
 const LARGEST: u32 = 19;
-
-// The word with which line 1 begins.
-#[tactic(auto, unfolding(rules::specs::Text::bind, rules::specs::Text::guard, rules::specs::Text::give, rules::specs::Text::any_byte, rules::specs::Text::byte))]
-fn hex_at(s: &[u8]) -> Option<&[u8]>
-    ensures { Reads s.now (parts.three 104 101 120) (skipped result) }
-{
-    s.strip_prefix(b"hex")
-}
 
 // A tab, and the columns or the rows of a board.
 fn size_at(s: &[u8]) -> Option<(u32, &[u8])>
@@ -71,7 +63,7 @@ pub struct Header {
 pub fn header_line(s: &[u8]) -> Option<(Header, &[u8])>
     ensures { Reads s.now L.header_line (header_seen result) }
 {
-    let sizes = hex_at(s)?;
+    let sizes = word_at(s, b'h', b'e', b'x')?;
     let (board, tab) = board_at(sizes)?;
     let letter = byte_at(tab, b'\t')?;
     let (player, rest) = player_end(letter)?;

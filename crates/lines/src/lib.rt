@@ -12,5 +12,5 @@ mod set_up;
 
 pub use header::{Header, header_line};
 pub use nodes::{Line, Place, node_line, place_at};
-pub use numbers::{byte_at, number_in};
+pub use numbers::{byte_at, number_in, word_at};
 pub use set_up::{SetUpLine, Side, set_up_line};

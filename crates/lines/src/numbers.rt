@@ -1,6 +1,7 @@
-// Bytes and numbers at the front of a text.
+// Bytes, words and numbers at the front of a text.
 ghost use Rattle.std.specs.Prelude.{◌≡◌, ◌+◌, ◌*◌, ◌-◌, ◌≤◌, ◌<◌, min, length};
 ghost use Rattle.rules.specs.Text.{byte, digits, well_spelled, number_in};
+ghost use Rattle.lines.specs.Parts as parts;
 ghost use Rattle.lines.specs.Run.{ceiling, run_of};
 ghost use Rattle.lines.specs.Seen.{Reads, skipped, number_seen};
 
@@ -13,6 +14,14 @@ pub fn byte_at(s: &[u8], b: u8) -> Option<&[u8]>
     ensures { Reads s.now (byte b) (skipped result) }
 {
     s.strip_prefix(&[b])
+}
+
+// The text after a word of three letters.
+#[tactic(auto, unfolding(rules::specs::Text::bind, rules::specs::Text::guard, rules::specs::Text::give, rules::specs::Text::any_byte, rules::specs::Text::byte))]
+pub fn word_at(s: &[u8], first: u8, second: u8, third: u8) -> Option<&[u8]>
+    ensures { Reads s.now (parts.three first second third) (skipped result) }
+{
+    s.strip_prefix(&[first, second, third])
 }
 
 // A run of digits: what it spells, or the ceiling if that is less, and how many there are.

@@ -153,11 +153,14 @@ pub struct Collected {
 }
 
 // The set with a move's stone; the cell 0 (a number of the table) puts none.
-pub fn with_stone(set: Cells, grid: Grid, cell: usize) -> Cells
+pub fn with_stone(mut set: Cells, grid: Grid, cell: usize) -> Cells
     requires { cell ≤ cells grid.board }
     ensures { (x : ℕ) → held grid.board result.rows x ≡ (held grid.board set.rows x || among (stone cell) x) }
 {
-    if cell == 0 { set } else { set.with(grid, cell) }
+    if cell != 0 {
+        set.put(grid, cell);
+    }
+    set
 }
 
 // The cells of the move at node i, its own and those under it, added to a set.

@@ -1,5 +1,7 @@
 -- The search wait by wait: the moves of the wait at hand one after another, each with the outcomes that go on from it.
 use Rattle.std.specs.Prelude as code
+use Rattle.std.specs.Result.{MatchResult, IsErrAnd}
+use Rattle.std.proofs.lemmas.Result.{err_from_is_err_and}
 use mathlib.Core.Path.{◌≡◌, refl, sym, ap, subst, ◌∙◌}
 use mathlib.Core.Bool.{Bool, true, false, ◌||◌}
 use Prim.Native.Nat.{ℕ, ◌+◌, ◌*◌, ◌/◌, ◌-◌, ◌<◌, ◌≤◌}
@@ -30,7 +32,7 @@ use Rattle.cells.proofs.Held.{held_cell}
 use Rattle.nodes.specs.Nodes.{a_move, size, nodes_of_waits, nodes_of_moves}
 use Rattle.nodes.specs.Table.{cell_in, end_in, count_in, Each}
 use Rattle.nodes.proofs.Trees.{moves_count, move_first}
-use Rattle.outcomes.specs.Searching.{Seated, Ahead, no_more, WaitNext, Going, SomeGoing, walked, answer_of, SearchFound, Countable, UnjoinedFound}
+use Rattle.outcomes.specs.Searching.{Seated, Ahead, no_more, WaitNext, Going, SomeGoing, walked, answer_of, found_as, SearchFound, Countable, UnjoinedFound}
 use Rattle.outcomes.proofs.Picking.{wait_weight, move_weight}
 use Rattle.outcomes.proofs.GoingOn.{walked_joined, walked_here, walked_none, walked_choice, walked_got}
 use Rattle.outcomes.proofs.Ahead.{ahead_most, ahead_some, first_ahead, none_ahead, waits_before, moves_before}
@@ -58,7 +60,7 @@ found_joining {b} p rows number e ws xs g h =
     walked_joined b p number xs ws (sym (held_joined p h) ∙ e) (ahead_some g.ahead) ∙ ap (λ (k : ℕ). got (k - 1)) (sym g.many_are)
 
 pub found_here : {b : Board} (p : Player) {t : List ℕ} (rows : List ℕ) {end i many : ℕ} (number : ℕ) {r : ℕ} → joined b p (held b rows) ≡ false → ((ws : Waits) → Ahead b t end i ws → WaitNext b t end i r ws)
-    → r ≡ end → SearchFound b p t end i many number rows (code.Err (NotJoined number))
+    → r ≡ end → SearchFound b p t end i many number rows (code.Err number)
 found_here {b} p rows number {r = r} e f z ws xs g h =
     ap (walked b p number xs) (none_ahead r z (f ws g.ahead).ahead) ∙ walked_here b p number xs (sym (held_joined p h) ∙ e)
 
@@ -134,8 +136,8 @@ pub record ChoiceStep (b : Board) (p : Player) (t : List ℕ) (end number : ℕ)
   pub going : SomeGoing b t end (next + 1) (count_in t next * others) n
   pub then : (out : List ℕ) (more : ℕ) → WithNext b t rows out next → SearchFound b p t end (next + 1) (count_in t next * others) n out (code.Ok more)
       → ChoicesLeft b p t end number rows ws after others (end_in t next) (n + count_in t next * others) (passed + more)
-  pub found : (v : Verdict) (out : List ℕ) → WithNext b t rows out next → SearchFound b p t end (next + 1) (count_in t next * others) n out (code.Err v)
-      → (xs : List ℕ) → Holds b rows xs → walked b p number xs ws ≡ refused v
+  pub found : (m : ℕ) (out : List ℕ) → WithNext b t rows out next → SearchFound b p t end (next + 1) (count_in t next * others) n out (code.Err m)
+      → (xs : List ℕ) → Holds b rows xs → walked b p number xs ws ≡ refused (NotJoined m)
 
 -- so many more are passed over at the first move
 one_more : (r : Result ℕ) (passed more : ℕ) → ((r >>= λ j. got (more + j)) >>= λ k. got (passed + k)) ≡ (r >>= λ k. got (passed + more + k))
@@ -168,14 +170,14 @@ choice_step {b} {p} {t} {rows} {end} {number} {after} {others} {next} {n} {passe
           many_are = many;
           few = few;
         } in
-        let searched : (out : List ℕ) (r : code.Result ℕ Verdict) → WithNext b t rows out next → SearchFound b p t end (next + 1) (count_in t next * others) n out r
-        → (xs : List ℕ) → Holds b rows xs → walked b p n (xs ++ stone c) below ≡ answer_of r =
+        let searched : (out : List ℕ) (r : code.Result ℕ ℕ) → WithNext b t rows out next → SearchFound b p t end (next + 1) (count_in t next * others) n out r
+        → (xs : List ℕ) → Holds b rows xs → walked b p n (xs ++ stone c) below ≡ found_as r =
         λ out r o q xs k.
         q below (xs ++ stone c) going
         (holds_more c k (subst (λ (y : ℕ). (x : ℕ) → held b out x ≡ (held b rows x || among (stone y) x)) f.0.here.weight.row.cell o)) in
-        let split : (out : List ℕ) (r : code.Result ℕ Verdict) → WithNext b t rows out next → SearchFound b p t end (next + 1) (count_in t next * others) n out r
+        let split : (out : List ℕ) (r : code.Result ℕ ℕ) → WithNext b t rows out next → SearchFound b p t end (next + 1) (count_in t next * others) n out r
         → (xs : List ℕ) → Holds b rows xs
-        → walked b p number xs ws ≡ ((answer_of r >>= λ k. walked b p (n + count_of_waits below) xs (wait l.line ms l.later) >>= λ j. got (k + j)) >>= λ k. got (passed + k)) =
+        → walked b p number xs ws ≡ ((found_as r >>= λ k. walked b p (n + count_of_waits below) xs (wait l.line ms l.later) >>= λ j. got (k + j)) >>= λ k. got (passed + k)) =
         λ out r o q xs k.
         s xs k
         ∙ ap (λ (z : Result ℕ). z >>= λ j. got (passed + j))
@@ -207,7 +209,7 @@ choice_step {b} {p} {t} {rows} {end} {number} {after} {others} {next} {n} {passe
                 ∙ one_more (walked b p (n + count_of_waits below) xs (wait l.line ms l.later)) passed more
                 ∙ ap (λ (y : ℕ). walked b p (n + y) xs (wait l.line ms l.later) >>= λ j. got (passed + more + j)) (sym many);
           };
-          found = λ v out o q. split out (code.Err v) o q;
+          found = λ m out o q. split out (code.Err m) o q;
         }
 
 -- none is left at the wait's end
@@ -266,8 +268,8 @@ module _ {b : Board} {p : Player} {t rows : List ℕ} {end i many number after o
     pub searching_fits : SomeGoing b t end i many number → (more : ℕ) → SearchFound b p t end (next + 1) (own * others) n out (code.Ok more) → passed + more ≤ most_outcomes
     searching_fits g more q = let step = searching_step h g in omega (arith, step.few, (step.then out more o (rw e at q)).passed_few)
 
-    pub searching_found : (v : Verdict) → SearchFound b p t end (next + 1) (own * others) n out (code.Err v) → SearchFound b p t end i many number rows (code.Err v)
-    searching_found v q ws xs g j = (choice_step w.no_join h (w.left ws g)).found v out o (rw e at q) xs j
+    pub searching_found : (m : ℕ) → SearchFound b p t end (next + 1) (own * others) n out (code.Err m) → SearchFound b p t end i many number rows (code.Err m)
+    searching_found m q ws xs g j = (choice_step w.no_join h (w.left ws g)).found m out o (rw e at q) xs j
 
   pub searching_done : after ≤ next → SearchFound b p t end i many number rows (code.Ok passed)
   searching_done h ws xs g j = choices_done h (w.left ws g) xs j
@@ -282,9 +284,18 @@ whole_going {b} {t} {i} {c} {end} {many} {ws} m e q =
       few = omega (arith, move_weight ws m.at.here.weight m.few, m.few);
     }
 
-pub whole_found : {b : Board} (p : Player) {t : List ℕ} {i end many : ℕ} (r : code.Result ℕ Verdict) (rows out : List ℕ) (cell : ℕ) → cell ≡ cell_in t i → end ≡ end_in t i → many ≡ count_in t i
-    → ((x : ℕ) → held b out x ≡ (held b rows x || among (stone cell) x)) → SearchFound b p t end (i + 1) many 0 out r → UnjoinedFound b p t i rows r
-whole_found p r rows out cell y e q o f c ws xs m h =
+pub whole_found : {b : Board} (p : Player) {t : List ℕ} {i end many : ℕ} (r : code.Result ℕ ℕ) (rows out : List ℕ) (cell : ℕ) → cell ≡ cell_in t i → end ≡ end_in t i → many ≡ count_in t i
+    → ((x : ℕ) → held b out x ≡ (held b rows x || among (stone cell) x)) → SearchFound b p t end (i + 1) many 0 out r → (told : code.Result ℕ Verdict) → found_as r ≡ answer_of told → UnjoinedFound b p t i rows told
+whole_found p r rows out cell y e q o f told k c ws xs m h =
     let same : cell ≡ c = y ∙ m.at.here.weight.row.cell in
     f ws (xs ++ stone c) (whole_going m e q)
     (record { same = λ x. o x ∙ ap (λ (v : Bool). v || among (stone cell) x) (h.same x) ∙ ap (λ (d : ℕ). among xs x || among (stone d) x) same ∙ sym (among_append x xs (stone c)) })
+    ∙ k
+
+-- the number that the search tells is told with 13
+pub told_as : (r : code.Result ℕ ℕ) (told : code.Result ℕ Verdict) (Told : ℕ → Verdict → Type 0) → ((m : ℕ) (v : Verdict) → Told m v → v ≡ NotJoined m)
+    → MatchResult r (λ passed. told ≡ code.Ok passed) (λ m. IsErrAnd told (Told m)) → found_as r ≡ answer_of told
+told_as (code.Ok passed) told Told k e = sym (ap answer_of e)
+told_as (code.Err m) told Told k e =
+    let q = err_from_is_err_and told e in
+    rw (q.1, k m q.0 q.2) refl

@@ -4,12 +4,13 @@ use Rattle.std.specs.Prelude as code
 use Rattle.rules.specs.declared.Board.{Board}
 use Rattle.rules.specs.declared.Player.{Player}
 use Rattle.rules.specs.declared.Verdict.{Verdict}
+use Rattle.rules.specs.declared.Verdict.TheVariants.{NotJoined}
 use Rattle.rules.specs.Sizes.{most_outcomes}
 use Rattle.rules.specs.Board.{is_cell}
 use Rattle.rules.specs.Tree.{Waits, no_waits, wait, Moves, stone}
 use Rattle.rules.specs.Outcomes.{count_of_waits, outcomes_of_waits}
 use Rattle.rules.specs.Passing.{passed_from, UnlikeWaits}
-use Rattle.rules.specs.Reading.{Result, got}
+use Rattle.rules.specs.Reading.{Result, got, refused}
 use Rattle.rules.specs.Answer.{as_result}
 use Rattle.rules.specs.Entries.{◌>>=◌, refuse_unjoined}
 use Rattle.cells.specs.Cells.{Holds}
@@ -67,10 +68,15 @@ walked b p number xs ws = do
 abbrev pub answer_of : code.Result ℕ Verdict → Result ℕ
 answer_of = as_result (λ passed. passed)
 
+-- the same of a search, which tells the number of the outcome alone
+abbrev pub found_as : code.Result ℕ ℕ → Result ℕ
+found_as (code.Ok passed) = got passed
+found_as (code.Err number) = refused (NotJoined number)
+
 -- the answer is right whatever waits are left, and whatever cells the set has
-abbrev pub SearchFound : Board → Player → List ℕ → (end i many number : ℕ) → List ℕ → code.Result ℕ Verdict → Type 0
+abbrev pub SearchFound : Board → Player → List ℕ → (end i many number : ℕ) → List ℕ → code.Result ℕ ℕ → Type 0
 SearchFound b p t end i many number rows r =
-    (ws : Waits) (xs : List ℕ) → Going b t end i many number ws → Holds b rows xs → walked b p number xs ws ≡ answer_of r
+    (ws : Waits) (xs : List ℕ) → Going b t end i many number ws → Holds b rows xs → walked b p number xs ws ≡ found_as r
 
 -- a move with the cell c and the waits ws stands weighed at node i, with moves on lines of their own under it, and has not too many
 -- outcomes

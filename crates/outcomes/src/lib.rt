@@ -80,8 +80,8 @@ impl Search<'_> {
     }
 
     // The first outcome that does not join among those that go on from a set by the waits from node i on; there are so many, and the first has the number.
-    // Where the set joins one is looked at, and the others are passed over.
-    fn first_from(&self, i: usize, many: usize, number: usize, set: Cells) -> Result<u32, Verdict>
+    // Where the set joins one is looked at, and the others are passed over. (Its number alone: a verdict of many words would be handed up through each level.)
+    fn first_from(&self, i: usize, many: usize, number: usize, set: Cells) -> Result<u32, u32>
         requires stands { SomeGoing self.now.grid.board self.now.t.now self.now.end i many number }
         ensures { SearchFound self.now.grid.board self.now.player self.now.t.now self.now.end i many number set.rows result }
     {
@@ -90,9 +90,7 @@ impl Search<'_> {
         }
         let wait = self.next_wait(i);
         if wait == self.end {
-            return Err(Verdict::NotJoined {
-                index: number as u32,
-            });
+            return Err(number as u32);
         }
         let others = many / count_at(self.t, wait);
         let after = end_at(self.t, wait);
@@ -130,5 +128,7 @@ pub fn first_unjoined(
         player,
         end: end_at(t, i),
     };
-    search.first_from(i + 1, many, 0, with)
+    search
+        .first_from(i + 1, many, 0, with)
+        .map_err(|index| Verdict::NotJoined { index })
 }

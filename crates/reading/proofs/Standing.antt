@@ -135,7 +135,7 @@ not_last : {b : Board} {r : Reader Line} {levels : ℕ} {s : Spot} {n : Node} {u
 not_last h f = omega (arith, h.not_full, f.few)
 
 -- the table keeps its length
-length_node : (t : List ℕ) (i c n : ℕ) → length (with_node t i c n) ≡ length t
+pub length_node : (t : List ℕ) (i c n : ℕ) → length (with_node t i c n) ≡ length t
 length_node t i c n = length-set (set t (4 * i + 1) n) (4 * i) c ∙ length-set t (4 * i + 1) n
 
 -- the spot after the line is fine, with the line stored

@@ -31,13 +31,13 @@ module _ (one : Spot → List ℕ → Stored) (s : Spot) (t : List ℕ) where
   all_more n u e = rw (e, store_all)
 
 -- a line stored, and the nodes under it
-node_refused : (levels : ℕ) (k : LineKind) (b : Board) (s : Spot) (t : List ℕ) (v : Verdict) → node_line b (reader_of k) levels s ≡ refused v
+pub node_refused : (levels : ℕ) (k : LineKind) (b : Board) (s : Spot) (t : List ℕ) (v : Verdict) → node_line b (reader_of k) levels s ≡ refused v
     → store_node levels k b s t ≡ record { reply = refused v; table = t }
 unfolding store_node store_under
 node_refused zero k b s t v e = rw e
 node_refused (suc levels) k b s t v e = rw e
 
-node_got : (levels : ℕ) (k : LineKind) (b : Board) (s : Spot) (t : List ℕ) (n : Node) (u : Spot) → 1 ≤ levels → node_line b (reader_of k) levels s ≡ got (n, u)
+pub node_got : (levels : ℕ) (k : LineKind) (b : Board) (s : Spot) (t : List ℕ) (n : Node) (u : Spot) → 1 ≤ levels → node_line b (reader_of k) levels s ≡ got (n, u)
     → store_node levels k b s t ≡ store_all n.under (store_node (levels - 1) (kind_under k) b) u (with_node t s.nodes n.cell n.under)
 unfolding store_node store_under
 node_got zero k b s t n u h e = absurd (omega arith)

@@ -31,11 +31,11 @@ pub record StoneRefused (b : Board) (s : Spot) (cs : List Stone) (v : Verdict) :
   pub line_read : set_up_line s.text.now ≡ some (said, left)
   pub not_down : set_down b (set_up_cells cs) (length cs + 2) said ≡ refused v
 
--- after the stones cs: a set-up line stands at the spot, none, or one that is refused
-abbrev pub StepKept : Board → Spot → List Stone → code.Result (code.Option (Spot × Stones)) Verdict → Type 0
-StepKept b s cs (code.Ok (code.Some x)) = StoneGot b s cs x.0 x.1
-StepKept b s cs (code.Ok code.None) = set_up_line s.text.now ≡ none
-StepKept b s cs (code.Err v) = StoneRefused b s cs v
+-- after the stones cs: a set-up line stands at the spot, and its stone is put to them; none, or one that is refused, and they are as they were
+abbrev pub StepKept : Board → Spot → List Stone → Stones → code.Result (code.Option Spot) Verdict → Stones → Type 0
+StepKept b s cs before (code.Ok (code.Some after)) stones = StoneGot b s cs after stones
+StepKept b s cs before (code.Ok code.None) stones = (set_up_line s.text.now ≡ none) × (stones ≡ before)
+StepKept b s cs before (code.Err v) stones = StoneRefused b s cs v × (stones ≡ before)
 
 -- all set-up lines were read
 pub record SetUpGot (b : Board) (body : Bytes) (after : Spot) (stones : Stones) : Type 0 where

@@ -58,30 +58,24 @@ fn number_on(grid: Grid, name: Option<Place>) -> Option<u32>
 }
 
 // One stone more.
-fn with_stone(stones: Stones, grid: Grid, side: Side, cell: usize) -> Stones
+fn put_stone(stones: &mut Stones, grid: Grid, side: Side, cell: usize)
     requires { T (is_cell grid.board cell) }
-    ensures { (cs : List Stone) → HeldStones grid.board cs stones.own stones.opp → HeldStones grid.board (cs ++ record { side = side_of side; cell = cell } ∷ []) result.own result.opp }
+    ensures { (cs : List Stone) → HeldStones grid.board cs stones.old.own stones.old.opp → HeldStones grid.board (cs ++ record { side = side_of side; cell = cell } ∷ []) stones.new.own stones.new.opp }
 {
     match side {
-        Side::Own => Stones {
-            own: stones.own.with(grid, cell),
-            ..stones
-        },
-        Side::Opp => Stones {
-            opp: stones.opp.with(grid, cell),
-            ..stones
-        },
+        Side::Own => stones.own.put(grid, cell),
+        Side::Opp => stones.opp.put(grid, cell),
     }
 }
 
-// The set-up line at a spot, if one stands there: the spot after it, and the stones with the line's stone. In this order: 5, 19. A malformed
-// one is none, so that it is refused with 4 in the first node's place.
+// The set-up line at a spot, if one stands there: the spot after it; and its stone is put to the stones. In this order: 5, 19. A malformed
+// one is none, so that it is refused with 4 in the first node's place. (The stones are lent: handed on by value they were copied at each line.)
 fn stone_here<'a>(
     grid: Grid,
-    stones: Stones,
+    stones: &mut Stones,
     spot: Spot<'a>,
-) -> Result<Option<(Spot<'a>, Stones)>, Verdict>
-    ensures { (cs : List Stone) → HeldStones grid.board cs stones.own stones.opp → spot.entry.line ≡ length cs + 2 → StepKept grid.board spot.entry cs result }
+) -> Result<Option<Spot<'a>>, Verdict>
+    ensures { (cs : List Stone) → HeldStones grid.board cs stones.old.own stones.old.opp → spot.entry.line ≡ length cs + 2 → StepKept grid.board spot.entry cs stones.old result stones.new }
 {
     let line = spot.line as u32;
     let Some((said, text)) = set_up_line(spot.text) else {
@@ -91,12 +85,12 @@ fn stone_here<'a>(
     if stones.has(grid, cell as usize) {
         return Err(Verdict::SetUpTwice { line, cell });
     }
-    let after = Spot {
+    put_stone(stones, grid, said.side, cell as usize);
+    Ok(Some(Spot {
         text,
         line: spot.line + 1,
         nodes: spot.nodes,
-    };
-    Ok(Some((after, with_stone(stones, grid, said.side, cell as usize))))
+    }))
 }
 
 // The spot at a body's front, which is the second line of its sheet. (A function of its own, since a function with a loop
@@ -119,9 +113,8 @@ fn read_set_up<'a>(grid: Grid, body: &'a [u8]) -> Result<(Spot<'a>, Stones), Ver
 {
     let mut stones = Stones::empty();
     let mut here = front_of(body);
-    while let Some((after, more)) = stone_here(grid, stones, here)? {
+    while let Some(after) = stone_here(grid, &mut stones, here)? {
         here = after;
-        stones = more;
     }
     Ok((here, stones))
 }

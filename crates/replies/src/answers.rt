@@ -18,14 +18,16 @@ use std::io::Stdout;
 // reply fits is not true of all `Said`, so each function that writes one asks it.)
 const MOST_REPLY: usize = 11077;
 
-// Prints the replies that were gathered, and says that the memory that was lent is not as the entries leave it. It asks that the memory
-// is right and is called only where it is not, so it is proved that it never comes to that.
-fn say_memory(out: Stdout, right: bool, said: &[u8])
+// Prints the replies that were gathered, and says that the memory that was lent is not as the entries leave it; none of them is left to
+// print then. It asks that the memory is right and is called only where it is not, so it is proved that it never comes to that.
+fn say_memory(out: Stdout, right: bool, said: &mut Said)
     requires never { right ≡ true }
-    requires said { Replies said.now }
+    requires said { Replies (take said.old.end said.old.bytes) }
+    ensures { (said.new.end ≡ 0) × (said.new.bytes ≡ said.old.bytes) }
 {
-    let _ = print(out, said);
+    let _ = print(out, said.replies());
     let _ = out.write_all(b"memory\n");
+    said.end = 0;
 }
 
 // Judges the sheet, and writes the reply: the judging program's line, or all counts.
@@ -38,7 +40,7 @@ fn answer_judge(out: Stdout, text: &[u8], all: bool, workspace: &mut [u32], said
     let verdict = judge(text, workspace);
     let right = workspace_right(workspace);
     if !right {
-        return say_memory(out, right, said.replies());
+        return say_memory(out, right, said);
     }
     if !all {
         said.end = report(&mut said.bytes, said.end, verdict);
@@ -66,7 +68,7 @@ fn answer_play(
     let told = Told::from(played.verdict);
     let right = lent_right(workspace, room, told.number, played.answers);
     if !right {
-        return say_memory(out, right, said.replies());
+        return say_memory(out, right, said);
     }
     let others = [
         told.line,
@@ -99,7 +101,7 @@ fn answer_outcome(
     let told = Told::from(named.verdict);
     let right = lent_right(workspace, room, told.number, named.cells);
     if !right {
-        return say_memory(out, right, said.replies());
+        return say_memory(out, right, said);
     }
     let others = [told.line, told.cell, told.index, named.cells as u32];
     let cells = &room[..named.cells];

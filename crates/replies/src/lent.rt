@@ -8,7 +8,7 @@ use requests::{MOST_NUMBERS, MOST_ROOM, MOST_WORK};
 pub const FILLING: u32 = 4294967295;
 
 // The memory for requests: places for a request's numbers, the workspace and the room, of which as much is lent as the request says.
-#[derive(Drop)]
+#[derive(Clone, Copy)]
 pub struct Memory {
     pub numbers: [u32; MOST_NUMBERS],
     pub workspace: [u32; MOST_WORK],

@@ -9,7 +9,7 @@ pub const MOST_HELD: usize = 131072;
 
 // The bytes of the input that were read and not yet taken: those of the buffer from start up to end. (A buffer of a fixed size and two
 // places in it: nothing is allocated.)
-#[derive(Drop)]
+#[derive(Clone, Copy)]
 pub struct Window {
     pub buffer: [u8; MOST_HELD],
     pub start: usize,

@@ -5,7 +5,7 @@ ghost use Rattle.std.specs.Prelude.{◌≤◌};
 pub const MOST_SAID: usize = 32768;
 
 // The replies that were gathered: the bytes up to end. (Bytes of a fixed size and a place in them: nothing is allocated.)
-#[derive(Drop)]
+#[derive(Clone, Copy)]
 pub struct Said {
     pub bytes: [u8; MOST_SAID],
     pub end: usize,

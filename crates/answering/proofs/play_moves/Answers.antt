@@ -43,25 +43,25 @@ answer_to-answer-requires c =
     let h = c.requires.holds in
     let g = c.loop-i.invariant.plays _ h.playable h.stones in
     let f = fine _ c.checked_move.ensures c.in_ok-map_err.ensures.variant in
-    ((cell_range _ _ (playing_cell h.playable g f)).0, playing_asked h.playable g f)
+    ((cell_range _ _ (playing_cell h.playable g _ f)).0, playing_asked h.playable g _ f)
 
 pub with-stones-requires : goal.with-stones-requires
 with-stones-requires c =
     let h = c.requires.holds in
     let f = fine _ c.checked_move.ensures c.in_ok-map_err.ensures.variant in
-    playing_answer h.playable (c.loop-i.invariant.plays _ h.playable h.stones) f c.answer_to-answer.ensures
+    playing_answer h.playable (c.loop-i.invariant.plays _ h.playable h.stones) _ f c.answer_to-answer.ensures
 
 pub with-stones-requires-in-loop-i : goal.with-stones-requires-in-loop-i
 with-stones-requires-in-loop-i c =
     let h = c.requires.holds in
     let f = fine _ c.checked_move.ensures c.in_ok-map_err.ensures.variant in
-    playing_cell h.playable (c.loop-i.invariant.plays _ h.playable h.stones) f
+    playing_cell h.playable (c.loop-i.invariant.plays _ h.playable h.stones) _ f
 
 pub overflow_cast-room : goal.overflow_cast-room
 overflow_cast-room c =
     let h = c.requires.holds in
     let f = fine _ c.checked_move.ensures c.in_ok-map_err.ensures.variant in
-    let a = playing_answer h.playable (c.loop-i.invariant.plays _ h.playable h.stones) f c.answer_to-answer.ensures in
+    let a = playing_answer h.playable (c.loop-i.invariant.plays _ h.playable h.stones) _ f c.answer_to-answer.ensures in
     record { fits = omega (arith, (cell_range _ _ a).1, few_cells _ c.args.grid.fits) }
 
 -- there is room for the answer
@@ -70,7 +70,7 @@ bounds-room-i c =
     let h = c.requires.holds in
     let l = c.loop-i.invariant in
     let f = fine _ c.checked_move.ensures c.in_ok-map_err.ensures.variant in
-    omega (arith, playing_few h.playable (l.plays _ h.playable h.stones) f, c.requires.enough, l.long)
+    omega (arith, playing_few h.playable (l.plays _ h.playable h.stones) _ f, c.requires.enough, l.long)
 
 pub loop-i-preserved : goal.loop-i-preserved
 loop-i-preserved c =
@@ -79,10 +79,10 @@ loop-i-preserved c =
     let f = fine _ c.checked_move.ensures c.in_ok-map_err.ensures.variant in
     let put : Wrote c.loop-i.room _ c.loop-i.i-counter c.answer_to-answer.result = record { there = bounds-room-i c; stored = refl } in
     record {
-      rows = remarked_twice l.rows (playing_rows h.playable (l.plays _ h.playable h.stones) f c.answer_to-answer.ensures);
+      rows = remarked_twice l.rows (playing_rows h.playable (l.plays _ h.playable h.stones) _ f c.answer_to-answer.ensures);
       long = wrote_long put ∙ l.long;
       plays = λ s k st.
-          playing_again k (l.plays s k st) f c.answer_to-answer.ensures c.loop-i-test.true l.long
+          playing_again k (l.plays s k st) _ f c.answer_to-answer.ensures c.loop-i-test.true refl l.long
           c.with-stones.ensures c.with-stones-in-loop-i.ensures put;
     }
 

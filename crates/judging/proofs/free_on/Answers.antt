@@ -4,7 +4,7 @@ use Rattle.judging.proofs.Fairness.{found_told, no_fault, all_stones, none_told}
 use Rattle.judging.proofs.free_on.Goals as goal
 
 pub returns-then-no_stone : goal.returns-then-no_stone
-returns-then-no_stone c = λ s h. none_told h c.if-no_stone.true
+returns-then-no_stone c = λ s h. none_told h.tree _ h.set_up.first_is c.if-no_stone.true
 
 pub line_of-requires : goal.line_of-requires
 line_of-requires c =

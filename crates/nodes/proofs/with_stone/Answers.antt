@@ -7,18 +7,18 @@ use Rattle.rules.proofs.Places.{range_cell}
 use Rattle.nodes.proofs.Collecting.{no_stone, stone_cell}
 use Rattle.nodes.proofs.with_stone.Goals as goal
 
-pub returns-then-cell-eq0 : goal.returns-then-cell-eq0
-returns-then-cell-eq0 c = λ x.
-    let y = held c.args.grid.board c.args.set.rows x in
-    sym (or-false y) ∙ ap (λ (z : Bool). y || z) (sym (no_stone c.args.cell x c.if-cell-eq0.true))
-
-pub with-requires : goal.with-requires
+pub put-requires : goal.put-requires
 unfolding cells
-with-requires c = range_cell _ _ (pos_of_ne-zero c.if-cell-eq0.false) c.requires
+put-requires c = range_cell _ _ (pos_of_ne-zero c.if-cell-ne0.true) c.requires
 
-pub returns-else-cell-eq0 : goal.returns-else-cell-eq0
-returns-else-cell-eq0 c = λ x.
+pub returns-else-cell-ne0 : goal.returns-else-cell-ne0
+returns-else-cell-ne0 c = λ x.
     let y = held c.args.grid.board c.args.set.rows x in
-    c.with.ensures x
+    sym (or-false y) ∙ ap (λ (z : Bool). y || z) (sym (no_stone c.args.cell x c.if-cell-ne0.false))
+
+pub returns-then-cell-ne0 : goal.returns-then-cell-ne0
+returns-then-cell-ne0 c = λ x.
+    let y = held c.args.grid.board c.args.set.rows x in
+    c.put.ensures x
     ∙ or_comm (nat_eq x c.args.cell) y
-    ∙ ap (λ (z : Bool). y || z) (sym (stone_cell c.args.cell x (pos_of_ne-zero c.if-cell-eq0.false)))
+    ∙ ap (λ (z : Bool). y || z) (sym (stone_cell c.args.cell x (pos_of_ne-zero c.if-cell-ne0.true)))

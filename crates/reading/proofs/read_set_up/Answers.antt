@@ -26,7 +26,7 @@ pub returns-in_err-after : goal.returns-in_err-after
 returns-in_err-after c =
     let g = c.loop-after.invariant in
     let p = err_from_is_err_and c.from_residual.result c.from_residual.ensures.1 in
-    rw (p.1, p.2) (setting_refused g _ (c.in_err-after.ensures g.set_up g.held g.line_is))
+    rw (p.1, p.2) (setting_refused g _ (c.in_err-after.ensures g.set_up g.held g.line_is).0)
 
 pub loop-after-preserved : goal.loop-after-preserved
 loop-after-preserved c =
@@ -38,4 +38,5 @@ pub returns : goal.returns
 returns c =
     let g = c.loop-after.invariant in
     let k = c.in_ok-after.ensures g.set_up g.held g.line_is in
-    setting_done g (rw c.in_default.is at k)
+    let none = rw c.in_default.is at k in
+    rw none.1 (setting_done g none.0)
