@@ -10,21 +10,15 @@ returns-then-not-well_spelled c = refused_spelling (λ p. false≢true (c.if-not
 pub returns-then-not-is_ascii_digit : goal.returns-then-not-is_ascii_digit
 returns-then-not-is_ascii_digit c = refused_byte c.loop-digit.digit-index c.loop-digit-test.true (λ d. omega (arith, d.least, d.most, c.if-not-is_ascii_digit.ensures.cases))
 
-pub returns-in_err-checked_mul : goal.returns-in_err-checked_mul
-returns-in_err-checked_mul c =
-    rw c.from_residual.ensures
-    (refused_size c.loop-digit.invariant.scanned c.loop-digit-test.true c.if-not-is_ascii_digit.ensures.cases (omega (arith, c.in_err-checked_mul.ensures)))
-
-pub returns-in_err-value : goal.returns-in_err-value
-returns-in_err-value c =
-    rw c.from_residual-in_err-value.ensures
-    (refused_size c.loop-digit.invariant.scanned c.loop-digit-test.true c.if-not-is_ascii_digit.ensures.cases
-    (omega (arith, c.in_ok-checked_mul.ensures, c.from.ensures, c.in_err-value.ensures)))
+pub returns-then-value-gt-MOST_NUMBER : goal.returns-then-value-gt-MOST_NUMBER
+returns-then-value-gt-MOST_NUMBER c =
+    refused_size c.loop-digit.invariant.scanned c.loop-digit-test.true c.if-not-is_ascii_digit.ensures.cases
+    (omega (arith, c.from.ensures, c.if-value-gt-MOST_NUMBER.true))
 
 pub loop-digit-preserved : goal.loop-digit-preserved
 loop-digit-preserved c =
     record {
       scanned = scanned_more c.loop-digit.invariant.scanned c.loop-digit-test.true c.if-not-is_ascii_digit.ensures.cases
-          (omega (arith, c.in_ok-value.ensures, c.from.ensures, c.in_ok-checked_mul.ensures));
-      small = omega (arith, c.in_ok-value.ensures);
+          (omega (arith, c.from.ensures));
+      small = omega (arith, c.if-value-gt-MOST_NUMBER.false);
     }
