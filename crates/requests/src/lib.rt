@@ -68,7 +68,7 @@ fn well_spelled(field: &[u8]) -> bool
 // A decimal number without leading zeros, up to 4294967295, that is the whole field.
 // (By hand: the whole field is to be `decimal` of a number, and `parse` takes a `str` and another spelling too; `lines` reads what stands at
 // the front of a text, and neither crate sees the other. In 64 bits with one comparison a digit: `checked_mul` and `checked_add` were measured to
-// take half as long again for a request of many numbers.)
+// take a quarter longer on requests of many large numbers.)
 fn number(field: &[u8]) -> Option<u32>
     ensures { NumberReply field.now result }
 {
